@@ -1,0 +1,5 @@
+mod Half
+mod Ranges
+mod Fields
+mod Clamp
+mod Edges

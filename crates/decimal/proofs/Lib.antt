@@ -1,0 +1,6 @@
+mod Powers
+mod Counted
+mod FromFirst
+mod Sign
+mod Whole
+mod Edges

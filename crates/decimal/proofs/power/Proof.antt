@@ -1,0 +1,17 @@
+-- `decimal::power` meets its contract: the table is the list of powers from 10 ^ 0 on, and that list has the rule. Assumes nothing.
+use borrow.Author.Needs.{needs}
+use Rattle.decimal.proofs.Powers.{power-is}
+use Rattle.decimal.proofs.power.Statement.{statement}
+use Rattle.decimal.proofs.power.Tie as tie
+
+mul-result : tie.Need-mul-result
+mul-result c = search needs
+
+array-read-result : tie.Need-array-read-result
+array-read-result c = search needs
+
+returns : tie.Need-returns
+returns c = power-is (c .args .k) (c .pre)
+
+pub power-spec : {M : Type 1} → statement M
+power-spec = tie.close (tie.spec mul-result array-read-result returns)

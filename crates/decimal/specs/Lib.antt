@@ -1,0 +1,5 @@
+pub mod Text
+pub mod Decimal
+pub mod Padded
+pub mod Written
+pub mod Laws
