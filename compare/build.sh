@@ -16,6 +16,8 @@ if [ -z "$(num_traits)" ]; then
     apt-get install -y --no-install-recommends librust-num-traits-dev
 fi
 
+command -v rustc > /dev/null || { apt-get update && apt-get install -y --no-install-recommends rustc; }
+
 mkdir -p "$out/physdes"
 (cd "$src" && sha256sum --check --quiet "$root/compare/physdes/published.sha256")
 for file in generic global_router interval point vector2; do

@@ -8,7 +8,7 @@ use lib.Ieee.{Float, nan, inf, fin, binary64, up, down, ofInt, mul, toSigned}
 unfoldable pub product : ℕ → Float → Float
 product w m = mul binary64 (ofInt binary64 (pos w)) m
 
--- a / c to the nearest whole number, and half way between two to the larger: the whole part of a / c + 1 / 2
+-- a / c to the nearest whole number, and half way between two to the larger: the whole part of a / c + 1 / 2 (`half-nearest` in proofs/Half.antt)
 unfoldable pub halfUp : ℕ → ℕ → ℕ
 halfUp a c = (2 * a + c) / (2 * c)
 
@@ -25,5 +25,6 @@ rounded (fin s m e) = fin s (halfUp (m * up e) (down e)) (pos 0)
 abbrev pub toI32 : Float → ℤ
 toI32 x = toSigned 31 x
 
+-- "allowed = `(W as f64 * m).round() as i32`"
 unfoldable pub allowedOf : ℕ → Float → ℤ
 allowedOf w m = toI32 (rounded (product w m))

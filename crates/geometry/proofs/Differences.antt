@@ -1,10 +1,10 @@
 -- A difference of two numbers of 32 bits, taken in 64: it fits, and its size is the distance.
 use mathlib.Core.Path.{_≡_, sym, ap, subst, _∙_}
-use Prim.Native.Nat.{ℕ, zero, suc, _+_, _-_, _≤_, _<_}
+use Prim.Native.Nat.{ℕ, zero, suc, _-_, _≤_, _<_}
 use native.Mathlib.Omega.{arith}
 use lib.Dec.{T, ltb}
 use lib.IntN.{ℤ, pos, negsuc, natAbs, subℕ, _-ℤ_}
-use lib.Signed.{leZ, ltZ, mag, nonNeg}
+use lib.Signed.{ltZ, mag, nonNeg}
 use mathlib.Core.Bool.{Bool, true, false, cond}
 use borrow.Author.Tests.{ltb-true}
 use mir.Syntax.{w32, w64}

@@ -5,11 +5,11 @@ use mathlib.Core.Bool.{Bool, true, false, _&&_, cond}
 use Prim.Native.Nat.{ℕ, zero, suc, _+_, _-_, _≤_, _<_, min, max}
 use native.Mathlib.Omega.{arith}
 use lib.Dec.{T, ltb, eqb}
-use lib.IntN.{ℤ, pos, negsuc, natAbs, subℕ, _-ℤ_}
-use lib.Signed.{_≤ℤ_, leZ, ltZ, mag, nonNeg}
+use lib.IntN.{ℤ, pos, negsuc, natAbs, subℕ}
+use lib.Signed.{_≤ℤ_, leZ, ltZ, mag}
 use borrow.Author.Tests.{ltb-true, ltb-false, leb-true, leb-false, le-leb, eqb-true, eqb-false}
 use mir.Syntax.{w32}
-use mir.Val.{SFits, Fits, toZ, ofZ, sel}
+use mir.Val.{SFits, toZ, ofZ, sel}
 use mir.ValLaws.{toZ-ofZ}
 use Rattle.geometry.specs.declared.Point.{Point}
 use Rattle.geometry.specs.declared.Interval.{Interval}
@@ -19,10 +19,6 @@ use Rattle.geometry.specs.Geometry.{gap, minZ, maxZ, clip, eqZ}
 pub is-true : (b : Bool) → T b → b ≡ true
 is-true true t = refl
 is-true false t = absurd t
-
-pub from-true : (b : Bool) → b ≡ true → T b
-from-true true e = tt
-from-true false e = subst T (sym e) tt
 
 pub no-way : {X : Type 0} → false ≡ true → X
 no-way e = absurd (subst T (sym e) tt)

@@ -167,7 +167,8 @@ impl Rectangle {
         false
     }
 
-    // Whether every way through the box `other` with one bend crosses this rectangle.
+    // Whether this rectangle cuts the box from side to side: it spans one of the box's intervals and lies within the other.
+    // One that covers the box and more does not block it.
     pub fn blocks(self, other: Rectangle) -> bool
         ensures { λ r. ⌜ r ≡ blocks self other ⌝ }
     {

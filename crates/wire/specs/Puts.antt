@@ -21,6 +21,7 @@ upTo n = min n lastPlace
 pub record Puts (l : List ℕ) (at : ℕ) (xs l′ : List ℕ) (r : ℕ) : Type 0 where
   pub is : l′ ≡ sets l at xs
   pub to : r ≡ upTo (at + length xs)
+  -- no slice is longer; the laws use it
   pub small : length l ≤ lastPlace
 
 sets-out : (xs l : List ℕ) (i : ℕ) → length l ≤ i → sets l i xs ≡ l

@@ -1,5 +1,6 @@
 // Little-endian fields of bytes: read from a slice at a place, and written to one. No place is refused.
-// Past the end a byte reads as 0, and a write stores nothing and still counts, up to the largest usize:
+// Past the end a byte reads as 0, and a byte written stores nothing and still counts, up to the largest usize (of a field across the
+// end the bytes that fit are stored):
 // so one writer both measures and writes.
 ghost use mathlib.Core.Path.{_≡_};
 ghost use mathlib.Core.List.{[], _∷_};

@@ -1,8 +1,5 @@
 -- `Point::same`: the two tests in turn, on the bits.
 use borrow.Author.Needs.{needs}
-use mathlib.Core.Path.{ap}
-use mir.Syntax.{w32}
-use mir.Val.{ofZ}
 use borrow.Author.Tests.{eq-eqb, ne-eqb}
 use Rattle.geometry.specs.Geometry.{same}
 use Rattle.geometry.specs.Signed.{InPoint, eq-home}
