@@ -1,0 +1,57 @@
+-- The answers of the calls that give a tree, by what led to them.
+use Prim.Native.Nat.{ℕ}
+use mathlib.Core.Path.{_≡_, refl, sym, ap, subst, _∙_}
+use mathlib.Core.Bool.{Bool, true, false}
+use mathlib.Core.List.{List}
+use native.Mathlib.Omega.{arith}
+use Rattle.geometry.specs.declared.Point.{Point}
+use Rattle.geometry.specs.Geometry.{origin}
+use Rattle.geometry.specs.Laws.{Within}
+use Rattle.tree.specs.Limits.{reach}
+use Rattle.tree.specs.Tree.{Tree}
+use Rattle.job.specs.Job as J
+use Rattle.job.specs.Job.{Job, outside, readJob}
+use Rattle.route.specs.Routing.{Routing, refused, routed, treeFor, routingOf, routeOf}
+use Rattle.global_router.specs.declared.GlobalRoutingTree.{GlobalRoutingTree}
+use Rattle.global_router.specs.declared.Answer.the-variants.{Refused, Done}
+use Rattle.global_router.specs.declared.Outcome.{Outcome}
+use Rattle.global_router.specs.Stored.{treeOf, Stored}
+use Rattle.global_router.specs.Calls.{Outcomes, begun, newOf}
+
+pub origin-near : (p : Point) → p ≡ origin → Within reach p
+origin-near p e = subst (Within reach) (sym e) (record { xcoord = omega arith; ycoord = omega arith })
+
+-- a refusal, beside the tree of a source at (0, 0)
+pub refuses : (n : ℕ) (s : Point) (g : GlobalRoutingTree) → s ≡ origin → treeOf g ≡ begun s → Stored g → Outcomes (refused n) (record { answer = Refused n; tree = g })
+refuses n s g e h st = record { is = refl; beside = λ k f. h ∙ ap begun e; stored = st }
+
+-- a tree
+pub gives : (t : Tree) (g : GlobalRoutingTree) → treeOf g ≡ t → Stored g → Outcomes (routed t) (record { answer = Done; tree = g })
+gives t g h st = record { is = ap routed h; beside = λ n f. absurd (let z : _≡_ {A = ℕ} 0 1 = cc in omega arith); stored = st }
+
+as-answer : {x y : Routing} {r : Outcome} → x ≡ y → Outcomes y r → Outcomes x r
+as-answer {r = r} e o = subst (λ (z : Routing). Outcomes z r) (sym e) o
+
+module _ (p : Point) (b : Bool) (eb : b ≡ outside p) {r : Outcome} where
+  pub new-refused : b ≡ true → Outcomes (refused 5) r → Outcomes (newOf p) r
+  unfolding newOf
+  new-refused t o = as-answer is o
+    where
+      is : newOf p ≡ refused 5
+      is = rw (sym eb ∙ t)
+
+  pub new-given : b ≡ false → Outcomes (routed (begun p)) r → Outcomes (newOf p) r
+  unfolding newOf
+  new-given t o = as-answer is o
+    where
+      is : newOf p ≡ routed (begun p)
+      is = rw (sym eb ∙ t)
+
+module _ (bytes : List ℕ) {r : Outcome} where
+  pub route-refused : {n : ℕ} → readJob bytes ≡ J.refused n → Outcomes (refused n) r → Outcomes (routeOf bytes) r
+  unfolding routeOf
+  route-refused e o = as-answer (ap routingOf e) o
+
+  pub route-given : {j : Job} → readJob bytes ≡ J.accepted j → Outcomes (routed (treeFor j)) r → Outcomes (routeOf bytes) r
+  unfolding routeOf
+  route-given e o = as-answer (ap routingOf e) o

@@ -1,0 +1,5 @@
+pub mod Beginning
+pub mod Columns
+pub mod Packed
+pub mod Lending
+pub mod Answering

@@ -1,0 +1,48 @@
+-- `global_router::route`: the reading's answer decides, and demand 3 comes with it.
+use denote.Ref.{now}
+use Rattle.job.proofs.Accepted.{turned-away, taken}
+use Rattle.route.proofs.Owed.{demand3}
+use Rattle.global_router.proofs.Answering.{route-refused, route-given, gives}
+use borrow.Author.Needs.{needs}
+use Rattle.global_router.proofs.route.Statement.{statement}
+use Rattle.global_router.proofs.route.Tie as tie
+
+read-job-requires : tie.Need-read-job-requires
+read-job-requires c κs = search needs
+
+enum-known-answer : tie.Need-enum-known-answer
+enum-known-answer c = search needs
+
+refused-requires : tie.Need-refused-requires
+refused-requires c κs = search needs
+
+enum-told : tie.Need-enum-told
+enum-told c = search needs
+
+routed-requires : tie.Need-routed-requires
+routed-requires c κs =
+    let t = taken _ (c .before .before .before .read-job .ensures) (c .before .enum-told .given .1) in
+    record { packing = t .job; accepted = t .sound }
+
+returns : tie.Need-returns
+returns c =
+    let b = now (c .before .before .before .before .before .before .args .bytes) in
+    (route-refused b (turned-away b (c .before .before .before .before .read-job .ensures) (c .before .before .answer .given .1)) (c .refused .ensures), demand3 b)
+
+returns-2 : tie.Need-returns-2
+returns-2 c =
+    let b = now (c .before .before .before .before .before .before .args .bytes) in
+    let t = taken b (c .before .before .before .before .read-job .ensures) (c .before .before .enum-told .given .1) in
+    (route-given b (t .read) (gives _ _ (c .routed .ensures .0) (c .routed .ensures .1)), demand3 b)
+
+pub route-spec : {M : Type 1} → statement M
+route-spec =
+    tie.close
+    (tie.spec
+    read-job-requires
+    enum-known-answer
+    refused-requires
+    enum-told
+    routed-requires
+    returns
+    returns-2)

@@ -1,0 +1,120 @@
+-- What an accepted job has (`Accepted`), and what a caller of `read_job` has by the answer that it finds.
+-- The idea: where no test refuses, each test's negation holds, of every terminal and keepout.
+use mathlib.Core.Path.{_≡_, refl, sym, ap, subst, _∙_}
+use mathlib.Core.Bool.{true, false, _&&_}
+use mathlib.Core.List.{List, [], _∷_, map, List·Memᴰ, List·Memᴰ·head, List·Memᴰ·tail}
+use Prim.Native.Nat.{ℕ, zero, suc, _≤_, _<_}
+use native.Mathlib.Omega.{arith}
+use lib.ListN.{length, getD, List·getD-append}
+use lib.IntN.{ℤ, pos, negsuc, natAbs, negℤ}
+use lib.Dec.{leb}
+use lib.Signed.{leZ}
+use borrow.Author.Tests.{leb-true, not-false}
+use Rattle.geometry.specs.declared.Point.{Point}
+use Rattle.geometry.specs.declared.Rectangle.{Rectangle}
+use Rattle.geometry.specs.Geometry.{origin, invalid, contains, inside}
+use Rattle.geometry.specs.Signed.{and-left, and-right, no-way}
+use Rattle.geometry.specs.Laws.{Within}
+use Rattle.tree.specs.Limits.{reach, mostTerminals}
+use Rattle.tree.specs.Search.{anyOf}
+use Rattle.job.specs.Job.{Job, refused, accepted, coordinates, outside, invalidKeepout, terminalsOf, sourceOf, jobOf, readJob}
+use Rattle.job.specs.Reading.{filled, packed, unpacked, readingOf, answerOf, numberOf}
+use Rattle.job.specs.Accepted.{Valid, Accepted, AcceptedInMemory}
+use Rattle.job.specs.declared.Reading.{Reading}
+use Rattle.job.specs.declared.ReadAnswer.the-variants as answers
+use Rattle.job.proofs.Any.{or-no, none-of}
+use Rattle.job.proofs.Verdict.{passed, few-of}
+use Rattle.job.proofs.Packing.{map-length, terminals-length, keepouts-length, answer-back}
+
+-- ---- one point, one keepout
+near : (M : ℕ) (z : ℤ) → inside (record { lb = negℤ (pos M); ub = pos M }) z ≡ true → natAbs z ≤ M
+unfolding inside
+near M (pos n) e = leb-true n M (and-right (leZ (negℤ (pos M)) (pos n)) (leb n M) e)
+near zero (negsuc n) e = no-way (and-left false true e)
+near (suc m) (negsuc n) e = omega (arith, leb-true n m (and-left (leb n m) true e))
+
+pub within : (p : Point) → outside p ≡ false → Within reach p
+unfolding outside contains
+within p e =
+    let x = inside coordinates (p .xcoord) in
+    let y = inside coordinates (p .ycoord) in
+    let h = not-false (x && y) e in
+    record { xcoord = near reach (p .xcoord) (and-left x y h); ycoord = near reach (p .ycoord) (and-right x y h) }
+
+valid : (k : Rectangle) → invalidKeepout k ≡ false → Valid k
+unfolding invalidKeepout
+valid k e = let h = or-no (invalid (k .xcoord)) (invalid (k .ycoord)) e in record { xcoord = h .0; ycoord = h .1 }
+
+-- ---- the job
+accepted-of : (b : List ℕ) → numberOf (readJob b) ≡ 0 → Accepted (jobOf b)
+accepted-of b e =
+    let p = passed b e in
+    let few = few-of b (p .few) in
+    let far = or-no (outside (sourceOf b)) (anyOf outside (terminalsOf b)) (p .near) in
+    record {
+      few-terminals = omega (arith, terminals-length b);
+      few-keepouts = omega (arith, keepouts-length b);
+      source = within (sourceOf b) (far .0);
+      terminals = λ m. within _ (none-of outside m (far .1));
+      keepouts = λ m. valid _ (none-of invalidKeepout m (p .valid));
+    }
+
+-- every job that is read
+pub accepted-job : (b : List ℕ) {j : Job} → readJob b ≡ accepted j → Accepted j
+accepted-job b {j} e =
+    let z : numberOf (readJob b) ≡ 0 = ap numberOf e in
+    let same : jobOf b ≡ j = same-job (sym (passed b z .is) ∙ e) in
+    subst Accepted same (accepted-of b z)
+  where
+    same-job : {k l : Job} → accepted k ≡ accepted l → k ≡ l
+    same-job h = cc
+
+-- ---- the job in memory
+-- a number of a column that was filled up
+getD-filled : (m : ℕ) (g : Point → ℤ) (l : List Point) (i : ℕ) → i < length l → getD (filled m (map g l)) i (pos 0) ≡ g (getD l i origin)
+getD-filled m g l i h = List·getD-append (map g l) _ (pos 0) i (omega (arith, map-length g l)) ∙ each l i h
+  where
+    each : (l : List Point) (i : ℕ) → i < length l → getD (map g l) i (pos 0) ≡ g (getD l i origin)
+    each [] i h = absurd (omega arith)
+    each (p ∷ l) zero h = refl
+    each (p ∷ l) (suc i) h = each l i (omega arith)
+
+member : (l : List Point) (i : ℕ) → i < length l → List·Memᴰ (getD l i origin) l
+member [] i h = absurd (omega arith)
+member (p ∷ l) zero h = List·Memᴰ·head refl
+member (p ∷ l) (suc i) h = List·Memᴰ·tail (member l i (omega arith))
+
+pub in-memory : (j : Job) → Accepted j → AcceptedInMemory (packed j)
+in-memory j a =
+    record {
+      few-terminals = a .few-terminals;
+      few-keepouts = a .few-keepouts;
+      source = a .source;
+      terminals = λ i h.
+          let x = getD-filled mostTerminals (λ p. p .xcoord) (j .terminals) i h in
+          let y = getD-filled mostTerminals (λ p. p .ycoord) (j .terminals) i h in
+          let w = a .terminals (member (j .terminals) i h) in
+          record { xcoord = rw x (w .xcoord); ycoord = rw y (w .ycoord) };
+    }
+
+-- ---- what a caller has, by the answer that it finds
+module _ (b : List ℕ) {r : Reading} (e : r ≡ readingOf (readJob b)) where
+  -- the answer's case gives the definition's answer
+  read-is : readJob b ≡ answerOf (r .answer) (r .job)
+  read-is = sym (answer-back (readJob b)) ∙ (λ i. answerOf (sym e i .answer) (sym e i .job))
+
+  pub turned-away : {n : ℕ} → r .answer ≡ answers.Refused n → readJob b ≡ refused n
+  turned-away h = read-is ∙ (λ i. answerOf (h i) (r .job))
+
+  pub record Taken : Type 0 where
+    pub read : readJob b ≡ accepted (unpacked (r .job))
+    pub job : r .job ≡ packed (unpacked (r .job))
+    pub sound : Accepted (unpacked (r .job))
+    pub memory : AcceptedInMemory (r .job)
+
+  pub taken : r .answer ≡ answers.Accepted → Taken
+  taken h =
+      let p : readJob b ≡ accepted (unpacked (r .job)) = read-is ∙ (λ i. answerOf (h i) (r .job)) in
+      let q : r .job ≡ packed (unpacked (r .job)) = λ i. (e ∙ ap readingOf p) i .job in
+      let a : Accepted (unpacked (r .job)) = accepted-job b p in
+      record { read = p; job = q; sound = a; memory = subst AcceptedInMemory (sym q) (in-memory _ a) }

@@ -1,0 +1,5 @@
+pub mod Layout
+pub mod Job
+pub mod Reading
+pub mod Accepted
+pub mod Alike

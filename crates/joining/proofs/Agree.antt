@@ -1,0 +1,85 @@
+-- A tree whose links agree is one that the search can walk: lists of children as counts, and as members.
+use Prim.Native.Nat.{ℕ, zero, suc, _+_, _*_, _≤_, _<_}
+use mathlib.Core.Path.{_≡_, refl, ap, sym, subst, _∙_}
+use mathlib.Core.Logic.{_≢_, _⊎_, inl, inr, ⊎-elim}
+use mathlib.Core.Bool.{Bool, true, false}
+use mathlib.Core.List.{List, [], _∷_, _++_, reverse, reverse-cons}
+use native.Mathlib.Omega.{arith}
+use lib.ListN.{length}
+use lib.Dec.{eqb}
+use borrow.Author.Tests.{eqb-true}
+use Rattle.tree.specs.Limits.{longestPath, reach}
+use Rattle.geometry.specs.Laws.{Within}
+use Rattle.tree.specs.Tree.{one}
+use Rattle.tree.specs.Tree.{Node, Parent, none, at, nodeAt}
+use Rattle.tree.specs.Shape.{Linked, count, isAt}
+use Rattle.tree.proofs.Linking.{one-eq, one-ne, count-snoc, child-in, parent-in, counted, none-at, out-parent}
+use Rattle.tree.proofs.Measuring.{at-inj}
+use Rattle.tree.proofs.Searching.{own}
+use Rattle.tree.proofs.Spread.{Spread}
+use Rattle.search.specs.Columns.{Has}
+use Rattle.search.specs.Moves.{Distinct}
+use Rattle.search.specs.Once.{away-of}
+use Rattle.search.specs.Forest.{Forest}
+use Rattle.search.specs.Tree.{examined}
+use Rattle.search.specs.Whole as W
+
+pub count-reverse : (c : ℕ) (l : List ℕ) → count c (reverse l) ≡ count c l
+unfolding count
+count-reverse c [] = refl
+count-reverse c (x ∷ l) = ap (count c) (reverse-cons x l) ∙ count-snoc c (reverse l) x ∙ omega (arith, count-reverse c l)
+
+pub has-count : (c : ℕ) (l : List ℕ) → Has c l → 0 < count c l
+unfolding Has count
+has-count c [] h = absurd h
+has-count c (x ∷ l) h = ⊎-elim (λ (e : x ≡ c). omega (arith, one-eq x c e)) (λ (k : Has c l). omega (arith, has-count c l k)) h
+
+pub count-has : (c : ℕ) (l : List ℕ) → 0 < count c l → Has c l
+unfolding Has count
+count-has c [] h = absurd (omega arith)
+count-has c (x ∷ l) h = by (eqb x c) refl (count-has c l)
+  where
+    by : (t : Bool) → eqb x c ≡ t → (0 < count c l → Has c l) → (x ≡ c) ⊎ Has c l
+    by true e f = inl (eqb-true x c e)
+    by false e f = inr (f (omega (arith, ap one e)))
+
+pub distinct-of : (l : List ℕ) → ((x : ℕ) → count x l ≤ 1) → Distinct l
+unfolding Distinct count
+distinct-of [] h = tt
+distinct-of (x ∷ l) h = (away-of x l (λ k. omega (arith, has-count x l k, h x, one-eq x x refl)), distinct-of l (λ y. omega (arith, h y)))
+
+is-most : (p : ℕ) (x : Parent) → isAt p x ≤ 1
+is-most p none = omega arith
+is-most p (at x) = by (eqb p x)
+  where
+    by : (t : Bool) → one t ≤ 1
+    by true = omega arith
+    by false = omega arith
+
+module _ (ns : List Node) (g : Linked ns) where
+  -- a child's parent
+  pub child-of : (p c : ℕ) → Has c (examined ns p) → nodeAt ns c .parent ≡ at p
+  child-of p c h = own ns g p c (omega (arith, has-count c (examined ns p) h, count-reverse c (nodeAt ns p .children)))
+
+  pub has-child : (p c : ℕ) → nodeAt ns c .parent ≡ at p → Has c (examined ns p)
+  has-child p c e = count-has c (examined ns p) (omega (arith, counted g c p e, count-reverse c (nodeAt ns p .children)))
+
+  pub once : (p : ℕ) → Distinct (examined ns p)
+  once p = distinct-of (examined ns p) (λ x. omega (arith, count-reverse x (nodeAt ns p .children), g .links p x, is-most p (nodeAt ns x .parent)))
+
+  -- no list of children has a number past the end
+  pub no-child : (p c : ℕ) → length ns ≤ c → Has c (examined ns p) → ⊥
+  no-child p c h k = none-at (sym (out-parent g c h) ∙ child-of p c k)
+
+  pub forest : Forest (length ns) (examined ns)
+  forest =
+      record {
+        some = g .some;
+        below = λ p c h k. child-in g c p (child-of p c k);
+        no-root = λ p c h k e. none-at (sym (g .top) ∙ ap (λ (i : ℕ). nodeAt ns i .parent) (sym e) ∙ child-of p c k);
+        once = λ p h. once p;
+        one = λ p q c h k z w. at-inj (sym (child-of p c z) ∙ child-of q c w);
+      }
+
+  pub walkable : Spread reach ns → ((i : ℕ) → nodeAt ns i .path ≤ longestPath) → W.Tree ns
+  walkable near long = record { forest = forest; near = λ i h. near i; long = λ i h. long i }

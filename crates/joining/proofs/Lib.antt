@@ -1,0 +1,11 @@
+pub mod Links
+pub mod Agree
+pub mod Steps
+pub mod Attaching
+pub mod Splitting
+pub mod Rowing
+pub mod Reading
+pub mod Growing
+pub mod Inserting
+pub mod Nearest
+pub mod Turning

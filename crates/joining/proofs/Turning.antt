@@ -1,0 +1,189 @@
+-- The loop over the terminals: its start, a turn, its end.
+use Prim.Native.Nat.{ℕ, zero, suc, _+_, _*_, _≤_, _<_}
+use mathlib.Core.Path.{_≡_, refl, ap, sym, subst, _∙_}
+use mathlib.Core.List.{List, [], _∷_, _++_, reverse}
+use native.Mathlib.Omega.{arith}
+use native.Mathlib.Numerals.{add-one}
+use lib.ListN.{length, getD, set, length-set}
+use lib.Seq.{getD-set-same}
+use lib.IntN.{ℤ}
+use Rattle.tree.specs.Limits.{mostNodes, noNode, reach}
+use Rattle.geometry.specs.declared.Point.{Point}
+use Rattle.geometry.specs.Laws.{Within}
+use Rattle.tree.specs.Tree.{Node, Tree, nodeAt}
+use Rattle.tree.specs.Route.{insert, insertSimple, inserts, rooted}
+use Rattle.tree.specs.WellFormed.{WellFormed, Counted}
+use Rattle.tree.proofs.Forming.{formed-insert, formed-simple, formed-start, counted-insert, counted-simple, counted-start}
+use Rattle.search.specs.declared.Ask.{Ask}
+use Rattle.search.specs.Search.{rectsOf, pointAt}
+use Rattle.search.specs.Columns.{Chain}
+use Rattle.joining.specs.declared.Counts.{Counts}
+use Rattle.joining.specs.declared.Row.{Row}
+use Rattle.joining.specs.declared.Way.{Way}
+use Rattle.joining.specs.declared.Way.the-variants.{Simple, Search}
+use Rattle.joining.specs.Store.{Rows, Columns, rowAt, nodeFrom, parentFrom, nodesOf, upTo, Sized, SizedRows, Keeps}
+use Rattle.joining.specs.Insert.{Stores, Standing, Asks, Inserted, stepOf}
+use Rattle.joining.specs.Route.{sourceRow, firsts, treeOf, treeIn, askAt, Routable, Begun, Holds, Under, Routed}
+use Rattle.joining.proofs.Steps.{row-same, sized-row}
+use Rattle.joining.proofs.Reading.{nodes-are}
+
+-- ---- one more terminal
+formed-step : (way : Way) (ks : List ℤ) (t : Tree) (q : Point) → WellFormed t → Within reach q → WellFormed (stepOf way ks t q)
+formed-step Simple ks t q f w = formed-simple t f q w
+formed-step Search ks t q f w = formed-insert t f q w (rectsOf ks)
+
+counted-step : (way : Way) (ks : List ℤ) (t : Tree) (q : Point) → WellFormed t → Counted t → Counted (stepOf way ks t q)
+counted-step Simple ks t q f n = counted-simple t f n q
+counted-step Search ks t q f n = counted-insert t f n q (rectsOf ks)
+
+-- a step gives out a terminal number, and leaves the rest as it is
+record Carried (t t′ : Tree) : Type 0 where
+  limit : t′ .limit ≡ t .limit
+  allowed : t′ .allowed ≡ t .allowed
+  farthest : t′ .farthest ≡ t .farthest
+  next : t′ .nextTerminal ≡ suc (t .nextTerminal)
+
+carried-step : (way : Way) (ks : List ℤ) (t : Tree) (q : Point) → Carried t (stepOf way ks t q)
+unfolding insert insertSimple
+carried-step Simple ks t q = record { limit = refl; allowed = refl; farthest = refl; next = refl }
+carried-step Search ks t q = record { limit = refl; allowed = refl; farthest = refl; next = refl }
+
+inserts-snoc : (g : Tree → Point → Tree) (qs : List Point) (q : Point) (t : Tree) → inserts g (qs ++ (q ∷ [])) t ≡ g (inserts g qs t) q
+unfolding inserts
+inserts-snoc g [] q t = refl
+inserts-snoc g (p ∷ qs) q t = inserts-snoc g qs q (g t p)
+
+tree-next : (way : Way) (ks px py : List ℤ) (a : Ask) (w i : ℕ) → treeOf way ks px py a w (i + 1) ≡ stepOf way ks (treeOf way ks px py a w i) (pointAt px py i)
+unfolding treeOf upTo
+tree-next way ks px py a w i =
+    ap (λ (n : ℕ). inserts (stepOf way ks) (firsts px py n) (rooted (a .q) (a .allowed) w (a .limit))) (add-one i)
+    ∙ inserts-snoc (stepOf way ks) (firsts px py i) (pointAt px py i) (rooted (a .q) (a .allowed) w (a .limit))
+
+-- ---- the source alone
+module _ (s : Point) (allowed : ℤ) (w limit : ℕ) (m : ℕ) (c c′ : Columns) (z : Sized m c) (room : 0 < m) (b : Begun c s c′) where
+  abbrev t₀ : Tree
+  t₀ = rooted s allowed w limit
+
+  row-start : rowAt (c′ .rows) 0 ≡ sourceRow s
+  row-start = ap (λ (r : Rows). rowAt r 0) (b .rows) ∙ row-same m (c .rows) 0 (sourceRow s) (z .rows) room
+
+  end-start : getD (c′ .last) 0 0 ≡ noNode
+  end-start = ap (λ (l : List ℕ). getD l 0 0) (b .last) ∙ getD-set-same (c .last) 0 noNode 0 (omega (arith, z .last))
+
+  keeps-start : Keeps (t₀ .nodes) c′
+  keeps-start = record { rows = rows; chains = chains }
+    where
+      rows : (i : ℕ) → i < 1 → nodeAt (t₀ .nodes) i ≡ nodeFrom (rowAt (c′ .rows) i) (nodeAt (t₀ .nodes) i .children)
+      rows zero h = unfold nodeAt parentFrom in ap (λ (r : Row). nodeFrom r []) (sym row-start)
+      rows (suc i) h = absurd (omega arith)
+
+      chains : (i : ℕ) → i < 1 → Chain (c′ .prev) (getD (c′ .last) i 0) (reverse (nodeAt (t₀ .nodes) i .children))
+      chains zero h = unfold nodeAt Chain in end-start
+      chains (suc i) h = absurd (omega arith)
+
+  sized-start : Sized m c′
+  sized-start =
+      record {
+        rows = subst (SizedRows m) (sym (b .rows)) (sized-row m (c .rows) 0 (sourceRow s) (z .rows));
+        last = ap length (b .last) ∙ length-set (c .last) 0 noNode ∙ z .last;
+        prev = ap length (b .prev) ∙ z .prev;
+        few = z .few;
+      }
+
+-- ---- the loop
+module _ (way : Way) (ks px py : List ℤ) (a : Ask) (c₀ : Columns) (v : Routable px py a c₀) where
+  abbrev m : ℕ
+  m = length (c₀ .prev)
+
+  z₀ : Sized m c₀
+  z₀ = subst (λ (n : ℕ). Sized n c₀) (sym (v .sized .prev)) (v .sized)
+
+  wide-enough : 2 * length px + 1 ≤ m
+  wide-enough = omega (arith, v .room, v .sized .prev)
+
+  pub starts : (c : Columns) → Begun c₀ (a .q) c → Under m way ks px py a 0 (record { nodes = 1; steiner = 1; terminal = 1 }) c
+  unfolding treeOf upTo inserts
+  starts c b =
+      record {
+        low = omega arith;
+        next = refl;
+        sized = sized-start (a .q) (a .allowed) 0 (a .limit) m c₀ c z₀ (omega (arith, wide-enough)) b;
+        holds = λ w. record {
+          formed = formed-start (a .q) (v .source) (a .allowed) w (a .limit);
+          counted = counted-start (a .q) (v .source) (a .allowed) w (a .limit);
+          stores = record {
+            size = refl;
+            steiner = refl;
+            terminal = refl;
+            keeps = keeps-start (a .q) (a .allowed) w (a .limit) m c₀ c z₀ (omega (arith, wide-enough)) b;
+          };
+          asks = record { limit = refl; allowed = refl };
+          farthest = refl;
+        };
+      }
+
+  module _ (i : ℕ) (k : Counts) (c : Columns) (u : Under m way ks px py a i k c) where
+    -- each terminal brought at most two nodes
+    nodes-low : k .nodes ≤ 2 * i + 1
+    nodes-low = let h = u .holds 0 in omega (arith, h .counted .size, h .counted .steiners, h .stores .size, h .stores .terminal, u .next)
+
+    pub ends : i ≡ length px → Routed way ks px py a k c
+    ends e =
+        let holds = subst (λ (n : ℕ). (w : ℕ) → Holds a w k c (treeOf way ks px py a w n)) e (u .holds) in
+        record {
+          tree = λ w. whole w (treeOf way ks px py a w (length px)) (holds w);
+          holds = holds;
+          next = u .next ∙ ap (λ (n : ℕ). n + 1) e;
+          sized = subst (λ (n : ℕ). Sized n c) (sym (u .sized .rows .xs)) (u .sized);
+        }
+      where
+        whole : (w : ℕ) (t : Tree) → Holds a w k c t → treeIn c k a w ≡ t
+        whole w t h =
+            let nodes : nodesOf c (k .nodes) ≡ t .nodes = ap (nodesOf c) (sym (h .stores .size))
+            ∙ nodes-are t (h .formed) (omega (arith, h .stores .size, nodes-low, v .few, u .low)) m c (u .sized) (h .stores .keeps) (omega (arith, h .stores .size, nodes-low, u .low, wide-enough)) in
+            λ j. record {
+              nodes = nodes j;
+              allowed = sym (h .asks .allowed) j;
+              farthest = sym (h .farthest) j;
+              limit = sym (h .asks .limit) j;
+              nextSteiner = sym (h .stores .steiner) j;
+              nextTerminal = sym (h .stores .terminal) j;
+            }
+
+    module _ (more : i < length px) (b : Ask) (eb : b ≡ askAt px py i a) where
+      pub stands : Standing (Asks b) 2 (b .q) k c
+      stands =
+          let h = u .holds 0 in
+          subst (λ (x : Ask). Standing (Asks x) 2 (x .q) k c) (sym eb)
+          (record {
+            tree = treeOf way ks px py a 0 i;
+            formed = h .formed;
+            stores = h .stores;
+            when = record { limit = h .asks .limit; allowed = h .asks .allowed };
+            sized = subst (λ (n : ℕ). Sized n c) (sym (u .sized .rows .xs)) (u .sized);
+            room = omega (arith, nodes-low, wide-enough, u .sized .rows .xs);
+            small = omega (arith, nodes-low, v .few);
+            steiner = omega (arith, h .counted .steiners, h .stores .steiner, h .stores .terminal, u .next, v .few);
+            within = v .near i more;
+          })
+
+      pub turn : (r : Counts) (c′ : Columns) → Inserted way ks b k c r c′ → Under m way ks px py a (i + 1) r c′
+      turn r c′ o₀ =
+          let o : Inserted way ks (askAt px py i a) k c r c′ = subst (λ (x : Ask). Inserted way ks x k c r c′) eb o₀ in
+          record {
+            low = omega arith;
+            next = omega (arith, o .stores (treeOf way ks px py a 0 i) (u .holds 0 .formed) (record { limit = u .holds 0 .asks .limit; allowed = u .holds 0 .asks .allowed }) (u .holds 0 .stores) .terminal, carried-step way ks (treeOf way ks px py a 0 i) (pointAt px py i) .next, u .holds 0 .stores .terminal, u .next);
+            sized = subst (λ (n : ℕ). Sized n c′) (u .sized .rows .xs) (o .sized);
+            holds = λ w. subst (Holds a w r c′) (sym (tree-next way ks px py a w i)) (after (treeOf way ks px py a w i) w (u .holds w) o);
+          }
+        where
+          after : (t : Tree) (w : ℕ) → Holds a w k c t → Inserted way ks (askAt px py i a) k c r c′ → Holds a w r c′ (stepOf way ks t (pointAt px py i))
+          after t w h o =
+              let same = carried-step way ks t (pointAt px py i) in
+              record {
+                formed = formed-step way ks t (pointAt px py i) (h .formed) (v .near i more);
+                counted = counted-step way ks t (pointAt px py i) (h .formed) (h .counted);
+                stores = o .stores t (h .formed) (record { limit = h .asks .limit; allowed = h .asks .allowed }) (h .stores);
+                asks = record { limit = same .limit ∙ h .asks .limit; allowed = same .allowed ∙ h .asks .allowed };
+                farthest = same .farthest ∙ h .farthest;
+              }

@@ -1,0 +1,115 @@
+-- `joining::route_sorted`: at the head of the loop the columns hold the tree of the terminals so far.
+use Prim.Native.Nat.{_-_}
+use mathlib.Core.Path.{refl, sym, _∙_}
+use native.Mathlib.Omega.{arith}
+use lib.ListN.{length}
+use Rattle.joining.specs.Store.{Columns, rowsOf, columns}
+use Rattle.joining.specs.Route.{Under}
+use Rattle.joining.proofs.Turning.{starts, stands, turn, ends}
+use Rattle.joining.proofs.route_sorted.Statement.{statement}
+use Rattle.joining.proofs.route_sorted.Tie as tie
+
+abbrev Inv-loop : tie.InvT-loop
+Inv-loop xs₀ ys₀ path₀ parent₀ kind₀ number₀ last₀ prev₀ px py ks way a k₀ i₀ xs ys path parent kind number last prev k i =
+    Under (length prev₀) way ks px py a i k (columns (rowsOf xs ys path parent kind number) last prev)
+
+abbrev μ-loop : tie.MeasureT-loop
+μ-loop xs₀ ys₀ path₀ parent₀ kind₀ number₀ last₀ prev₀ px py ks way a k₀ i₀ xs ys path parent kind number last prev k i = length px - i
+
+-- the columns at entry, and at the loop's head
+abbrev cols : tie.Start Inv-loop μ-loop → Columns
+cols s = columns (rowsOf (s .args .xs .now) (s .args .ys .now) (s .args .path .now) (s .args .parent .now) (s .args .kind .now) (s .args .number .now)) (s .args .last .now) (s .args .prev .now)
+
+abbrev here : tie.At-loop Inv-loop μ-loop → Columns
+here d = columns (rowsOf (d .loop .xs) (d .loop .ys) (d .loop .path) (d .loop .parent) (d .loop .kind) (d .loop .number)) (d .loop .last) (d .loop .prev)
+
+-- the places on the way to the end of a turn
+abbrev entry : tie.At-loop Inv-loop μ-loop → tie.Start Inv-loop μ-loop
+entry c = c .before .before .before .before .before .before .before .before .before .before .before .before .before .before .before .before .before .before .before .before .before .before .before .before .before .before .before .before
+
+abbrev asked : tie.After-slice-known17 Inv-loop μ-loop → tie.After-ask-at Inv-loop μ-loop
+asked c = c .before .before .before .before .before .before .before .before .before .before .before .before .before .before .before .before .before .before .before .before .before .before .before
+
+store-source-requires : tie.Need-store-source-requires Inv-loop μ-loop
+store-source-requires c κs = let v = c .before .before .before .before .before .before .before .before .before .before .before .before .before .before .pre in (v .sized .rows, (omega (arith, v .room), omega (arith, v .room, v .sized .last)))
+
+loop-holds : tie.Need-loop-holds Inv-loop μ-loop
+loop-holds c =
+    let s = c .before .before .before .before .before .before .before .before .before .before .before .before .before .before .before .before .before .before .before .before .before .before .before .before .before .before .before in
+    let e = c .before .before .before .before .before .before .before .before .before .before .before .before .store-source .ensures in
+    starts (s .args .way) _ _ _ _ (cols s) (s .pre) _ (record { rows = e .0; last = e .1; prev = refl })
+
+ask-at-requires : tie.Need-ask-at-requires Inv-loop μ-loop
+ask-at-requires c κs = (c .loop-test .taken, omega (arith, c .loop-test .taken, c .before .before .before .before .before .before .before .before .before .before .before .before .before .before .before .before .before .before .before .before .before .before .before .before .before .before .before .before .before .pre .both))
+
+insert-terminal-requires : tie.Need-insert-terminal-requires Inv-loop μ-loop
+insert-terminal-requires c κs =
+    let s = c .before .before .before .before .before .before .before .before .before .before .before .before .before .before .before .before .before .before .before .before .before .before .before .before .before .before .before .before .before .before .before .before .before .before .before .before .before .before in
+    let d = c .before .before .before .before .before .before .before .before .before .before in
+    stands (s .args .way) _ _ _ _ (cols s) (s .pre) _ _ (here d) (d .loop .inv) (c .before .before .before .before .before .before .before .before .before .loop-test .taken) _ (c .before .before .before .before .before .before .before .before .ask-at .ensures)
+
+add-i : tie.Need-add-i Inv-loop μ-loop
+add-i c = omega (arith, asked c .before .loop-test .taken, c .before .before .before .before .before .before .before .before .before .before .before .before .before .before .before .before .before .before .before .before .before .before .before .before .before .before .before .before .before .before .before .before .before .before .before .before .before .before .before .before .before .before .before .before .before .before .before .before .before .before .before .before .before .pre .few)
+
+loop-less : tie.Need-loop-less Inv-loop μ-loop
+loop-less c = omega (arith, asked c .before .loop-test .taken)
+
+loop-again : tie.Need-loop-again Inv-loop μ-loop
+loop-again c =
+    let a = asked c in
+    let d = a .before .before in
+    let s = entry d in
+    turn (s .args .way) _ _ _ _ (cols s) (s .pre) _ _ (here d) (d .loop .inv) (a .before .loop-test .taken) _ (a .ask-at .ensures) _ _ (c .before .before .before .before .before .before .before .before .before .before .before .before .before .before .insert-terminal .ensures)
+
+same-length : tie.Need-same-length Inv-loop μ-loop
+same-length c = let z = entry (c .before) .pre .sized in c .before .loop .inv .sized .rows .xs ∙ z .prev ∙ sym (z .rows .xs)
+
+same-length-2 : tie.Need-same-length-2 Inv-loop μ-loop
+same-length-2 c = let z = entry (c .before) .pre .sized in c .before .loop .inv .sized .rows .ys ∙ z .prev ∙ sym (z .rows .ys)
+
+same-length-3 : tie.Need-same-length-3 Inv-loop μ-loop
+same-length-3 c = let z = entry (c .before) .pre .sized in c .before .loop .inv .sized .rows .path ∙ z .prev ∙ sym (z .rows .path)
+
+same-length-4 : tie.Need-same-length-4 Inv-loop μ-loop
+same-length-4 c = let z = entry (c .before) .pre .sized in c .before .loop .inv .sized .rows .parent ∙ z .prev ∙ sym (z .rows .parent)
+
+same-length-5 : tie.Need-same-length-5 Inv-loop μ-loop
+same-length-5 c = let z = entry (c .before) .pre .sized in c .before .loop .inv .sized .rows .kind ∙ z .prev ∙ sym (z .rows .kind)
+
+same-length-6 : tie.Need-same-length-6 Inv-loop μ-loop
+same-length-6 c = let z = entry (c .before) .pre .sized in c .before .loop .inv .sized .rows .number ∙ z .prev ∙ sym (z .rows .number)
+
+same-length-7 : tie.Need-same-length-7 Inv-loop μ-loop
+same-length-7 c = let z = entry (c .before) .pre .sized in c .before .loop .inv .sized .last ∙ z .prev ∙ sym (z .last)
+
+same-length-8 : tie.Need-same-length-8 Inv-loop μ-loop
+same-length-8 c = c .before .loop .inv .sized .prev
+
+returns : tie.Need-returns Inv-loop μ-loop
+returns c =
+    let d = c .before in
+    let s = entry d in
+    ends (s .args .way) _ _ _ _ (cols s) (s .pre) _ _ (here d) (d .loop .inv) (omega (arith, c .loop-test .left, d .loop .inv .low))
+
+pub route-sorted-spec : {M : Type 1} → statement M
+route-sorted-spec =
+    tie.close
+    (tie.spec
+    Inv-loop
+    μ-loop
+    store-source-requires
+    loop-holds
+    ask-at-requires
+    insert-terminal-requires
+    add-i
+    loop-less
+    loop-again
+    same-length
+    same-length-2
+    same-length-3
+    same-length-4
+    same-length-5
+    same-length-6
+    same-length-7
+    same-length-8
+    returns)

@@ -1,0 +1,79 @@
+-- `joining::split_rows`: the branch's ends and the nearest point on it are within the limit, so the sums fit; and they are what the definition names.
+use native.Mathlib.Omega.{arith}
+use Rattle.tree.specs.Limits.{reach}
+use Rattle.geometry.specs.Laws.{Within, dist-small}
+use Rattle.joining.proofs.Rowing.{Found, found, near-found, split-rows-are}
+use borrow.Author.Needs.{needs}
+use Rattle.joining.proofs.split_rows.Statement.{statement}
+use Rattle.joining.proofs.split_rows.Tie as tie
+
+-- the branch's start
+start : (c : tie.After-nearest-on) → Found (c .before .before .before .before .spot-at .result)
+start c = found _ _ _ _ _ (c .before .before .before .before .before .before .pre .0) (c .before .before .before .before .spot-at .ensures)
+
+-- the nearest point
+near : (c : tie.After-nearest-on) → Within reach (c .nearest-on .result)
+near c =
+    let end = found _ _ _ _ _ (c .before .before .before .before .before .before .pre .1 .0) (c .before .before .before .spot-at2 .ensures) in
+    near-found _ _ _ _ (start c .near) (end .near) (c .nearest-on .ensures)
+
+spot-at-requires : tie.Need-spot-at-requires
+spot-at-requires c κs = search needs
+
+spot-at-requires-2 : tie.Need-spot-at-requires-2
+spot-at-requires-2 c κs = search needs
+
+nearest-on-requires : tie.Need-nearest-on-requires
+nearest-on-requires c κs = search needs
+
+distance-requires : tie.Need-distance-requires
+distance-requires c κs = (start c .near, near c)
+
+distance-requires-2 : tie.Need-distance-requires-2
+distance-requires-2 c κs = (near (c .before), c .before .before .before .before .before .before .before .pre .1 .1 .0)
+
+add-t17 : tie.Need-add-t17
+add-t17 c =
+    let n = c .before .before .before in
+    omega (arith, start n .long, dist-small (start n .near) (near n), c .before .before .distance .ensures)
+
+add-t18 : tie.Need-add-t18
+add-t18 c =
+    let n = c .before .before .before in
+    omega (
+      arith,
+      start n .long,
+      dist-small (start n .near) (near n),
+      c .before .before .distance .ensures,
+      dist-small (near n) (n .before .before .before .before .before .before .pre .1 .1 .0),
+      c .before .distance2 .ensures,
+    )
+
+add-t19 : tie.Need-add-t19
+add-t19 c = search needs
+
+add-t17-2 : tie.Need-add-t17-2
+add-t17-2 c =
+    let n = c .before .before .before .before .before in
+    omega (arith, start n .long, dist-small (start n .near) (near n), c .before .before .before .before .distance .ensures)
+
+returns : tie.Need-returns
+returns c =
+    let n = c .before .before .before .before .before in
+    split-rows-are (n .before .before .before .before .before .before .args .k) _ _ _ _ _ _ _ _ (n .before .before .before .before .spot-at .ensures) (n .before .before .before .spot-at2 .ensures)
+    (n .nearest-on .ensures) (c .before .before .before .before .distance .ensures) (c .before .before .before .distance2 .ensures)
+
+pub split-rows-spec : {M : Type 1} → statement M
+split-rows-spec =
+    tie.close
+    (tie.spec
+    spot-at-requires
+    spot-at-requires-2
+    nearest-on-requires
+    distance-requires
+    distance-requires-2
+    add-t17
+    add-t18
+    add-t19
+    add-t17-2
+    returns)

@@ -1,0 +1,16 @@
+-- `nodes::parent_of`: the test is the definition's.
+use borrow.Author.Tests.{eq-eqb, ne-eqb}
+use Rattle.joining.specs.Store.{parentFrom}
+use Rattle.nodes.proofs.parent_of.Statement.{statement}
+use Rattle.nodes.proofs.parent_of.Tie as tie
+
+returns : tie.Need-returns
+unfolding parentFrom
+returns c = simp (eq-eqb _ _ (c .if1 .taken))
+
+returns-2 : tie.Need-returns-2
+unfolding parentFrom
+returns-2 c = simp (ne-eqb _ _ (c .if1 .left))
+
+pub parent-of-spec : {M : Type 1} → statement M
+parent-of-spec = tie.close (tie.spec returns returns-2)

@@ -1,0 +1,61 @@
+-- Demand 3 holds: order-freedom from the readings and from the trees, and the rest from `route-meets`.
+use mathlib.Core.Path.{_≡_, refl, sym, ap, subst, _∙_}
+use mathlib.Core.List.{List}
+use Prim.Native.Nat.{ℕ}
+use lib.Ieee.{Float}
+use Rattle.allowance.specs.Allowance.{allowedOf}
+use Rattle.tree.specs.Tree.{Tree}
+use Rattle.tree.specs.Route as T
+use Rattle.tree.specs.Shape.{Meets}
+use Rattle.tree.proofs.Alike.{route-alike}
+use Rattle.tree.proofs.Routing.{route-meets}
+use Rattle.job.specs.declared.Mode.{Mode}
+use Rattle.job.specs.declared.Mode.the-variants.{Constraints}
+use Rattle.job.specs.Job as J
+use Rattle.job.specs.Job.{Job, readJob}
+use Rattle.job.specs.Alike.{AlikeButOrder, SameJobs, SameReading}
+use Rattle.job.proofs.Alike.{read-alike}
+use Rattle.route.specs.Routing.{Routing, refused, routed, wayOf, treeFor, routingOf, routeOf}
+use Rattle.route.specs.Demand3.{Constrained, Owed, Demand3}
+
+-- ---- order
+same-tree : (j k : Job) → SameJobs j k → treeFor j ≡ treeFor k
+same-tree j k h =
+    route-alike (wayOf (j .mode)) (j .source) (j .terminals) (k .terminals) (j .keepouts) (k .keepouts) (h .terminals) (h .keepouts)
+    ∙ (λ i. T.route (wayOf (h .mode i)) (h .source i) (k .terminals) (k .keepouts))
+
+same-routing : (x y : J.Answer) → SameReading x y → routingOf x ≡ routingOf y
+same-routing (J.refused m) (J.refused n) h = ap refused h
+same-routing (J.refused m) (J.accepted k) h = absurd h
+same-routing (J.accepted j) (J.refused n) h = absurd h
+same-routing (J.accepted j) (J.accepted k) h = ap routed (same-tree j k h)
+
+-- ---- constraints
+module _ (j : Job) (m : Float) where
+  abbrev tree : Tree
+  tree = T.route (T.constraints (λ w. allowedOf w m)) (j .source) (j .terminals) (j .keepouts)
+
+  constrained-meets : Meets (j .source) (j .terminals) tree → Constrained j m tree
+  constrained-meets v =
+      record {
+        exact = refl;
+        by-number = v .by-number;
+        as-often = v .as-often;
+        to-source = v .to-source;
+        path-sums = v .path-sums;
+        within = λ i k l e. v .ceilings i k l e .inside;
+        beyond = λ i k l e. v .ceilings i k l e .outside;
+        total-low = v .total-low;
+      }
+
+  constrained-tree : j .mode ≡ Constraints m → treeFor j ≡ tree
+  constrained-tree e = ap (λ (x : Mode). T.route (wayOf x) (j .source) (j .terminals) (j .keepouts)) e
+
+pub demand3 : Demand3
+unfolding routeOf
+demand3 b =
+    record {
+      same-answer = λ a h. same-routing (readJob a) (readJob b) (read-alike a b h);
+      constrained = λ j m e f.
+          (tree j m, ap routingOf e ∙ ap routed (constrained-tree j m f), constrained-meets j m (route-meets (j .source) (j .terminals) (j .keepouts) (λ w. allowedOf w m)));
+    }

@@ -1,0 +1,124 @@
+-- `plan` is the definition's route: the sorted columns are the sorted terminals, and each mode's choice is what the definition has for it.
+use Prim.Native.Nat.{ℕ, zero, suc, _+_, _*_, _≤_, _<_, max}
+use mathlib.Core.Path.{_≡_, refl, sym, ap, subst, _∙_}
+use mathlib.Core.List.{List, [], _∷_, _++_}
+use native.Mathlib.Omega.{arith}
+use lib.ListN.{length}
+use lib.IntN.{ℤ, pos}
+use Rattle.geometry.specs.declared.Point.{Point}
+use Rattle.geometry.specs.Geometry.{dist}
+use Rattle.geometry.specs.Laws.{Within, dist-small}
+use Rattle.tree.specs.Limits.{reach, across, mostTerminals, mostNodes, noLimit}
+use Rattle.tree.specs.Tree.{Node, Tree}
+use Rattle.tree.specs.Route.{inserts, rooted, sort, farthest, route}
+use Rattle.tree.specs.WellFormed.{WellFormed, Counted}
+use Rattle.job.specs.declared.Mode.{Mode}
+use Rattle.job.specs.declared.Mode.the-variants.{Simple, Steiners, Constraints}
+use Rattle.search.specs.declared.Ask.{Ask}
+use Rattle.search.specs.Search.{rectsOf}
+use Rattle.sorting.specs.Points.{pt, seg, Even, Sorted}
+use Rattle.sorting.proofs.Moves.{seg-append}
+use Rattle.joining.specs.declared.Counts.{Counts}
+use Rattle.joining.specs.Store.{Columns, Sized, Keeps, upTo}
+use Rattle.joining.specs.Insert.{stepOf}
+use Rattle.joining.specs.Route.{treeOf, Routable, Routed}
+use Rattle.route.specs.declared.Table.{Table}
+use Rattle.route.specs.declared.Choice.{Choice}
+use Rattle.route.specs.Routing.{wayOf}
+use Rattle.route.specs.Plan.{points, choiceOf, tableColumns, tableTree, Plannable, Planned}
+
+-- ---- the first n of a column, from the front and from the back
+upto-seg : (f : ℕ → Point) (n : ℕ) → upTo f n ≡ seg f 0 n
+unfolding upTo seg
+upto-seg f zero = refl
+upto-seg f (suc n) =
+    ap (λ (l : List Point). l ++ (f n ∷ [])) (upto-seg f n)
+    ∙ ap (λ (x : ℕ). seg f 0 n ++ (f x ∷ [])) (zero-left n)
+    ∙ sym (seg-append f 0 n 1)
+    ∙ ap (seg f 0) (one-more n)
+  where
+    zero-left : (n : ℕ) → n ≡ 0 + n
+    zero-left n = omega arith
+
+    one-more : (n : ℕ) → n + 1 ≡ suc n
+    one-more n = omega arith
+
+-- ---- W is small
+far : (s : Point) (f : ℕ → Point) → Within reach s → (i k : ℕ) → ((j : ℕ) → j < i + k → Within reach (f j)) → farthest s (seg f i k) ≤ across
+unfolding seg
+far s f h i zero g = omega arith
+far s f h i (suc k) g = omega (arith, dist-small h (g i (omega arith)), far s f h (suc i) k (λ j l. g j (omega arith)))
+
+pub farthest-bound : {px py : List ℤ} {s : Point} → Plannable px py s → farthest s (points px py) ≤ across
+farthest-bound {px} {py} {s} v = far s (pt px py) (v .source) 0 (length px) (λ j l. v .even .near j (omega arith))
+
+-- ---- what a mode chooses
+module _ (s : Point) (w : ℕ) where
+  from-source : (mode : Mode) → choiceOf mode s w .ask .q ≡ s
+  from-source Simple = refl
+  from-source Steiners = refl
+  from-source (Constraints m) = refl
+
+  limit-small : (mode : Mode) → w ≤ across → choiceOf mode s w .ask .limit ≤ noLimit
+  limit-small Simple h = omega arith
+  limit-small Steiners h = omega arith
+  limit-small (Constraints m) h = omega arith
+
+  -- the definition's route, by that choice
+  by-choice : (mode : Mode) (ks : List ℤ) (ts : List Point) → w ≡ farthest s ts
+      → inserts (stepOf (choiceOf mode s w .way) ks) (sort s ts) (rooted (choiceOf mode s w .ask .q) (choiceOf mode s w .ask .allowed) w (choiceOf mode s w .ask .limit))
+      ≡ route (wayOf mode) s ts (rectsOf ks)
+  by-choice Simple ks ts e = ap (λ (v : ℕ). inserts (stepOf (choiceOf Simple s v .way) ks) (sort s ts) (rooted s (pos noLimit) v noLimit)) e
+  by-choice Steiners ks ts e = ap (λ (v : ℕ). inserts (stepOf (choiceOf Steiners s v .way) ks) (sort s ts) (rooted s (pos noLimit) v noLimit)) e
+  by-choice (Constraints m) ks ts e = ap (λ (v : ℕ). inserts (stepOf (choiceOf (Constraints m) s v .way) ks) (sort s ts) (rooted s (choiceOf (Constraints m) s v .ask .allowed) v v)) e
+
+-- ---- the call
+module _ (ks px py : List ℤ) (s : Point) (mode : Mode) (v : Plannable px py s) (px′ py′ : List ℤ) (sorted : Sorted px py s px′ py′)
+    (w : ℕ) (is-w : w ≡ farthest s (points px py)) (c : Choice) (is-c : c ≡ choiceOf mode s w) where
+  pub routable : (columns : Columns) → Sized (length (columns .rows .xs)) columns → 241 ≤ length (columns .rows .xs) → Routable px′ py′ (c .ask) columns
+  routable columns z h =
+      record {
+        sized = z;
+        room = omega (arith, v .few, sorted .size);
+        few = omega (arith, v .few, sorted .size);
+        both = sorted .even .both;
+        source = subst (Within reach) (sym (ap (λ (x : Choice). x .ask .q) is-c ∙ from-source s w mode)) (v .source);
+        near = sorted .even .near;
+      }
+
+  module _ (t : Table) (of : Routed (c .way) ks px′ py′ (c .ask) (t .counts) (tableColumns t)) (size : length (t .xs) ≡ mostNodes)
+      (is-limit : t .limit ≡ c .ask .limit) (is-allowed : t .allowed ≡ c .ask .allowed) (is-farthest : t .farthest ≡ w) where
+    table-is : tableTree t ≡ treeOf (c .way) ks px′ py′ (c .ask) w (length px′)
+    table-is =
+        (λ i. record {
+          nodes = tableTree t .nodes;
+          allowed = is-allowed i;
+          farthest = is-farthest i;
+          limit = is-limit i;
+          nextSteiner = t .counts .steiner;
+          nextTerminal = t .counts .terminal;
+        })
+        ∙ of .tree w
+
+    tree-is : treeOf (c .way) ks px′ py′ (c .ask) w (length px′) ≡ route (wayOf mode) s (points px py) (rectsOf ks)
+    unfolding treeOf
+    tree-is =
+        (λ i. inserts (stepOf (is-c i .way) ks) ((upto-seg (pt px′ py′) (length px′) ∙ sorted .is) i) (rooted (is-c i .ask .q) (is-c i .ask .allowed) w (is-c i .ask .limit)))
+        ∙ by-choice s w mode ks (points px py) is-w
+
+    low-w : w ≤ across
+    low-w = omega (arith, farthest-bound v)
+
+    pub planned : Planned ks px py s mode t
+    planned =
+        let h = of .holds w in
+        record {
+          tree = table-is ∙ tree-is;
+          formed = subst WellFormed (sym table-is) (h .formed);
+          counted = subst Counted (sym table-is) (h .counted);
+          keeps = subst (λ (x : Tree). Keeps (x .nodes) (tableColumns t)) (sym table-is) (h .stores .keeps);
+          sized = subst (λ (m : ℕ). Sized m (tableColumns t)) size (of .sized);
+          next = of .next ∙ ap (λ (n : ℕ). n + 1) (sorted .size);
+          limit-small = omega (arith, is-limit, ap (λ (x : Choice). x .ask .limit) is-c, limit-small s w mode low-w);
+          farthest-small = omega (arith, is-farthest, low-w);
+        }

@@ -1,0 +1,3 @@
+pub mod Plan
+pub mod Routing
+pub mod Demand3

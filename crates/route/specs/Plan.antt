@@ -1,0 +1,62 @@
+-- The tree of a source and terminals in any order, as columns by value.
+use Prim.Native.Nat.{ℕ, _+_, _≤_}
+use mathlib.Core.Path.{_≡_}
+use mathlib.Core.List.{List}
+use lib.ListN.{length}
+use lib.IntN.{ℤ, pos}
+use Rattle.geometry.specs.declared.Point.{Point}
+use Rattle.geometry.specs.Laws.{Within}
+use Rattle.allowance.specs.Allowance.{allowedOf}
+use Rattle.tree.specs.Limits.{reach, across, mostTerminals, mostNodes, noLimit}
+use Rattle.tree.specs.Tree.{Tree}
+use Rattle.tree.specs.Route.{farthest, route}
+use Rattle.tree.specs.WellFormed.{WellFormed, Counted}
+use Rattle.job.specs.declared.Mode.{Mode}
+use Rattle.job.specs.declared.Mode.the-variants.{Simple, Steiners, Constraints}
+use Rattle.search.specs.Search.{rectsOf}
+use Rattle.sorting.specs.Points.{pt, seg, Even}
+use Rattle.joining.specs.declared.Way.the-variants as W
+use Rattle.joining.specs.Store.{Columns, rowsOf, columns, nodesOf, Sized, Keeps}
+use Rattle.route.specs.declared.Table.{Table}
+use Rattle.route.specs.declared.Choice.{Choice}
+use Rattle.route.specs.Routing.{wayOf}
+
+-- the points of two columns
+abbrev pub points : List ℤ → List ℤ → List Point
+points px py = seg (pt px py) 0 (length px)
+
+-- how a mode routes, with W: the way to join, the tree limit and the allowance
+abbrev pub choiceOf : Mode → Point → ℕ → Choice
+choiceOf Simple s w = record { way = W.Simple; ask = record { q = s; limit = noLimit; allowed = pos noLimit } }
+choiceOf Steiners s w = record { way = W.Search; ask = record { q = s; limit = noLimit; allowed = pos noLimit } }
+choiceOf (Constraints m) s w = record { way = W.Search; ask = record { q = s; limit = w; allowed = allowedOf w m } }
+
+abbrev pub tableColumns : Table → Columns
+tableColumns t = columns (rowsOf (t .xs) (t .ys) (t .path) (t .parent) (t .kind) (t .number)) (t .last) (t .prev)
+
+abbrev pub tableTree : Table → Tree
+tableTree t =
+    record {
+      nodes = nodesOf (tableColumns t) (t .counts .nodes);
+      allowed = t .allowed;
+      farthest = t .farthest;
+      limit = t .limit;
+      nextSteiner = t .counts .steiner;
+      nextTerminal = t .counts .terminal;
+    }
+
+pub record Plannable (px py : List ℤ) (s : Point) : Type 0 where
+  pub even : Even px py
+  pub few : length px ≤ mostTerminals
+  pub source : Within reach s
+
+-- the table is the tree that the definition gives, and keeps it well-formed
+pub record Planned (ks px py : List ℤ) (s : Point) (mode : Mode) (t : Table) : Type 0 where
+  pub tree : tableTree t ≡ route (wayOf mode) s (points px py) (rectsOf ks)
+  pub formed : WellFormed (tableTree t)
+  pub counted : Counted (tableTree t)
+  pub keeps : Keeps (tableTree t .nodes) (tableColumns t)
+  pub sized : Sized mostNodes (tableColumns t)
+  pub next : t .counts .terminal ≡ length px + 1
+  pub limit-small : t .limit ≤ noLimit
+  pub farthest-small : t .farthest ≤ across

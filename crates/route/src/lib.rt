@@ -1,0 +1,136 @@
+// A source and terminals become a tree in columns: sorting, W, the allowance, and the three ways to route.
+use geometry::Point;
+use job::Mode;
+use joining::Counts;
+use joining::Way;
+use search::Ask;
+ghost use mathlib.Core.Path.{_≡_};
+ghost use Prim.Native.Nat.{max};
+ghost use Rattle.geometry.specs.Laws.{Within};
+ghost use Rattle.tree.specs.Limits.{reach};
+ghost use Rattle.tree.specs.Route.{farthest};
+ghost use Rattle.sorting.specs.Points.{Even};
+ghost use Rattle.route.specs.Plan.{points, choiceOf, Plannable, Planned};
+
+// A tree in columns, with the figures that come with it.
+pub struct Table {
+    pub xs: [i32; tree::MOST_NODES],
+    pub ys: [i32; tree::MOST_NODES],
+    pub path: [u32; tree::MOST_NODES],
+    pub parent: [u16; tree::MOST_NODES],
+    pub kind: [u8; tree::MOST_NODES],
+    pub number: [u16; tree::MOST_NODES],
+    pub last: [u16; tree::MOST_NODES],
+    pub prev: [u16; tree::MOST_NODES],
+    pub counts: Counts,
+    pub limit: u32,
+    pub allowed: i32,
+    pub farthest: u32,
+}
+
+// How a mode routes: the way to join, the tree limit and the allowance.
+pub struct Choice {
+    pub way: Way,
+    pub ask: Ask,
+}
+
+fn larger(a: u32, b: u32) -> u32
+    ensures { λ r. ⌜ r ≡ max a b ⌝ }
+{
+    if a < b { b } else { a }
+}
+
+// W: the largest distance from the source, 0 with no terminals.
+fn farthest<'a>(px: &'a [i32], py: &'a [i32], s: Point) -> u32
+    requires { ⌜ Even (now px) (now py) × Within reach s ⌝ }
+    ensures { λ r. ⌜ r ≡ farthest s (points (now (px .entry)) (now (py .entry))) ⌝ }
+{
+    let mut w: u32 = 0;
+    let mut i = px.len();
+    while 0 < i {
+        i = i - 1;
+        let q = sorting::point_at(px, py, i);
+        w = larger(search::distance(s, q), w);
+    }
+    w
+}
+
+fn choose(mode: Mode, s: Point, w: u32) -> Choice
+    ensures { λ r. ⌜ r ≡ choiceOf mode s w ⌝ }
+{
+    let free = Ask {
+        q: s,
+        limit: tree::NO_LIMIT,
+        allowed: 2147483647,
+    };
+    match mode {
+        Mode::Simple => Choice {
+            way: Way::Simple,
+            ask: free,
+        },
+        Mode::Steiners => Choice {
+            way: Way::Search,
+            ask: free,
+        },
+        Mode::Constraints(m) => {
+            let bound = Ask {
+                q: s,
+                limit: w,
+                allowed: allowance::allowed(w, m),
+            };
+            Choice {
+                way: Way::Search,
+                ask: bound,
+            }
+        }
+    }
+}
+
+// The tree of a source and terminals, which are sorted in place.
+pub fn plan(px: &mut [i32], py: &mut [i32], ks: &[i32], s: Point, mode: Mode) -> Table
+    requires { ⌜ Plannable (now px) (now py) s ⌝ }
+    ensures { λ r. ⌜ Planned (now (ks .entry)) (now (px .entry)) (now (py .entry)) s mode r ⌝ }
+{
+    let w = farthest(px, py, s);
+    sorting::sort(px, py, s);
+    let c = choose(mode, s, w);
+    let way = c.way;
+    let ask = c.ask;
+    let mut xs = [0i32; tree::MOST_NODES];
+    let mut ys = [0i32; tree::MOST_NODES];
+    let mut path = [0u32; tree::MOST_NODES];
+    let mut parent = [0u16; tree::MOST_NODES];
+    let mut kind = [0u8; tree::MOST_NODES];
+    let mut number = [0u16; tree::MOST_NODES];
+    let mut last = [0u16; tree::MOST_NODES];
+    let mut prev = [0u16; tree::MOST_NODES];
+    let k = joining::route_sorted(
+        &mut xs,
+        &mut ys,
+        &mut path,
+        &mut parent,
+        &mut kind,
+        &mut number,
+        &mut last,
+        &mut prev,
+        px,
+        py,
+        ks,
+        way,
+        ask,
+    );
+    Table {
+        xs: xs,
+        ys: ys,
+        path: path,
+        parent: parent,
+        kind: kind,
+        number: number,
+        last: last,
+        prev: prev,
+        counts: k,
+        limit: ask.limit,
+        allowed: ask.allowed,
+        farthest: w,
+    }
+}

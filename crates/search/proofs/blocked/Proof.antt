@@ -1,0 +1,56 @@
+use Prim.Native.Nat.{_≤_, _-_}
+use mathlib.Core.Path.{refl}
+use native.Mathlib.Omega.{arith}
+use lib.ListN.{length}
+use Rattle.search.specs.Branch.{Scan, scan-hit, scan-next, scan-ends}
+use Rattle.search.proofs.blocked.Statement.{statement}
+use Rattle.search.proofs.blocked.Tie as tie
+
+abbrev Inv-loop : tie.InvT-loop
+Inv-loop ks n a b c i₀ i = (i ≤ length ks) × Scan ks n a b c i
+
+abbrev μ-loop : tie.MeasureT-loop
+μ-loop ks n a b c i₀ i = length ks - i
+
+loop-holds : tie.Need-loop-holds Inv-loop μ-loop
+loop-holds c = (omega arith, refl)
+
+add-loop : tie.Need-add-loop Inv-loop μ-loop
+add-loop c = omega arith
+
+rect-at-requires : tie.Need-rect-at-requires Inv-loop μ-loop
+rect-at-requires c κs = omega arith
+
+shut-by-requires : tie.Need-shut-by-requires Inv-loop μ-loop
+shut-by-requires c κs = tt
+
+returns : tie.Need-returns Inv-loop μ-loop
+returns c = scan-hit _ _ _ _ _ _ (c .before .before .before .before .loop .inv .1) (c .before .before .before .loop-test .taken) _ _ (c .before .before .rect-at .ensures) (c .before .shut-by .ensures) (c .if1 .taken)
+
+add-i : tie.Need-add-i Inv-loop μ-loop
+add-i c = omega arith
+
+loop-less : tie.Need-loop-less Inv-loop μ-loop
+loop-less c = omega arith
+
+loop-again : tie.Need-loop-again Inv-loop μ-loop
+loop-again c = (omega arith, scan-next _ _ _ _ _ _ (c .before .before .before .before .loop .inv .1) (c .before .before .before .loop-test .taken) _ _ (c .before .before .rect-at .ensures) (c .before .shut-by .ensures) (c .if1 .left))
+
+returns-2 : tie.Need-returns-2 Inv-loop μ-loop
+returns-2 c = scan-ends _ _ _ _ _ _ (c .before .loop .inv .1) (c .loop-test .left)
+
+pub blocked-spec : {M : Type 1} → statement M
+blocked-spec =
+    tie.close
+    (tie.spec
+    Inv-loop
+    μ-loop
+    loop-holds
+    add-loop
+    rect-at-requires
+    shut-by-requires
+    returns
+    add-i
+    loop-less
+    loop-again
+    returns-2)

@@ -1,0 +1,141 @@
+use borrow.Author.Needs.{needs}
+use Prim.Native.Nat.{ℕ, _≤_, _<_, _+_, _-_}
+use mathlib.Core.Path.{_≡_, refl, ap, sym, subst, _∙_}
+use native.Mathlib.Omega.{arith}
+use lib.ListN.{length, getD, set, length-set}
+use Rattle.tree.specs.Limits.{longestPath, reach}
+use Rattle.geometry.specs.Laws.{Within}
+use Rattle.search.specs.declared.Spot.{Spot}
+use Rattle.search.specs.declared.Best.{Best}
+use Rattle.search.specs.declared.Join.the-variants.{Onto}
+use mathlib.Core.Bool.{false}
+use Rattle.search.specs.Search.{rectsOf, spotAt, start}
+use Rattle.search.specs.Columns.{Has, chain, kidsOf, Linked, InReach}
+use Rattle.search.specs.Round.{Round, begins, finishes, Popped, pops}
+use Rattle.search.proofs.search.Statement.{statement}
+use Rattle.search.proofs.search.Tie as tie
+
+abbrev Inv-loop : tie.InvT-loop
+Inv-loop stack₀ n ask xs ys path last prev ks m found₀ top₀ left₀ stack found top left =
+    Round (rectsOf ks) ask (spotAt xs ys path) (kidsOf last prev) n (length stack₀) n (start ask) stack found top left
+
+abbrev μ-loop : tie.MeasureT-loop
+μ-loop stack₀ n ask xs ys path last prev ks m found₀ top₀ left₀ stack found top left = left
+
+-- the node that a turn pops
+popped : (c : tie.In-loop Inv-loop μ-loop) →
+    Popped
+    (rectsOf (c .before .before .before .before .before .before .before .args .ks .now))
+    (c .before .before .before .before .before .before .before .args .ask)
+    (spotAt (c .before .before .before .before .before .before .before .args .xs .now) (c .before .before .before .before .before .before .before .args .ys .now) (c .before .before .before .before .before .before .before .args .path .now))
+    (kidsOf (c .before .before .before .before .before .before .before .args .last .now) (c .before .before .before .before .before .before .before .args .prev .now))
+    (c .before .before .before .before .before .before .before .args .n)
+    (length (set (c .before .before .before .before .before .before .before .args .stack .now) 0 0))
+    (c .before .before .before .before .before .before .before .args .n)
+    (start (c .before .before .before .before .before .before .before .args .ask))
+    (c .before .loop .stack)
+    (c .before .loop .found)
+    (c .before .loop .top)
+    (c .before .loop .left)
+popped c = pops _ _ _ _ _ _ _ _ _ _ _ _ (c .before .loop .inv) (c .loop-test .taken)
+
+least-one-requires : tie.Need-least-one-requires Inv-loop μ-loop
+least-one-requires c κs = tt
+
+slice-write-stack : tie.Need-slice-write-stack Inv-loop μ-loop
+slice-write-stack c = c .before .before .before .before .before .pre .1 .0
+
+loop-holds : tie.Need-loop-holds Inv-loop μ-loop
+loop-holds c =
+    let s = c .before .before .before .before .before in
+    begins _ _ _ _ _ _ _ _ (s .args .stack .now) _ (sym (length-set (s .args .stack .now) 0 0)) (omega (arith, s .pre .1 .0, length-set (s .args .stack .now) 0 0))
+    (λ i. record { join = Onto 0; best = c .least-one .ensures i; valid = false }) (rw length-set (s .pre .1 .1))
+
+sub-top : tie.Need-sub-top Inv-loop μ-loop
+sub-top c = omega arith
+
+mul-p : tie.Need-mul-p Inv-loop μ-loop
+mul-p c = let v = c .before .loop .inv in omega (arith, v .tall, length-set (c .before .before .before .before .before .before .before .args .stack .now) 0 0)
+
+slice-read-p : tie.Need-slice-read-p Inv-loop μ-loop
+slice-read-p c = let v = c .before .before .loop .inv in omega (arith, v .tall, v .size, c .before .loop-test .taken)
+
+spot-at-requires : tie.Need-spot-at-requires Inv-loop μ-loop
+spot-at-requires c κs =
+    let f = c .before .before .before .before .before .before .before .before .pre .0 in
+    let h = popped (c .before) .here in
+    record { in-xs = omega (arith, f .in-xs, f .in-prev); in-ys = omega (arith, f .in-ys, f .in-prev); in-path = omega (arith, f .in-path, f .in-prev) }
+
+wide-requires : tie.Need-wide-requires Inv-loop μ-loop
+wide-requires c κs = tt
+
+mul-first : tie.Need-mul-first Inv-loop μ-loop
+mul-first c = omega (arith, c .wide .ensures, popped (c .before .before .before) .here, c .before .before .before .before .before .before .before .before .before .before .pre .0 .few, c .before .before .before .before .before .before .before .before .before .before .pre .0 .in-prev)
+
+shared-slice-read-first : tie.Need-shared-slice-read-first Inv-loop μ-loop
+shared-slice-read-first c = omega (arith, c .before .wide .ensures, popped (c .before .before .before .before) .here, c .before .before .before .before .before .before .before .before .before .before .before .pre .0 .in-last, c .before .before .before .before .before .before .before .before .before .before .before .pre .0 .in-prev)
+
+children-requires : tie.Need-children-requires Inv-loop μ-loop
+children-requires c κs =
+    let s = c .before .before .before .before .before .before .before .before .before .before .before .before in
+    let f = s .pre .0 in
+    let x = popped (c .before .before .before .before .before) in
+    let e = c .before .before .before .spot-at .ensures in
+    let w = c .before .before .wide .ensures in (
+      record {
+        in-xs = f .in-xs;
+        in-ys = f .in-ys;
+        in-path = f .in-path;
+        few = f .few;
+        q = f .q;
+        p = subst (λ (x : Spot). Within reach (x .point)) (sym e) (f .near _ (x .here));
+        long = subst (λ (x : Spot). x .path ≤ longestPath) (sym e) (f .long _ (x .here));
+        near = λ i h. f .near i (f .below _ i (x .here) (subst (λ (j : ℕ). Has i (chain (s .args .prev .now) (getD (s .args .last .now) j 0))) w h));
+      },
+      (
+        subst (λ (i : ℕ). Linked (s .args .prev .now) (getD (s .args .last .now) i 0)) (sym w) (f .links _ (x .here)),
+        omega (arith, x .fits, c .before .before .before .before .before .before .loop .inv .size, ap (λ (i : ℕ). length (chain (s .args .prev .now) (getD (s .args .last .now) i 0))) w),
+      ),
+    )
+
+sub-left : tie.Need-sub-left Inv-loop μ-loop
+sub-left c = let x = popped (c .before .before .before .before .before .before .before .before .before) .some in omega arith
+
+loop-less : tie.Need-loop-less Inv-loop μ-loop
+loop-less c = let x = popped (c .before .before .before .before .before .before .before .before .before) .some in omega arith
+
+loop-again : tie.Need-loop-again Inv-loop μ-loop
+loop-again c =
+    let s = c .before .before .before .before .before .before .before .before .before .before .before .before .before .before .before .before in
+    popped (c .before .before .before .before .before .before .before .before .before) .again _ _ _ _ _ (c .before .before .before .before .before .before .before .spot-at .ensures)
+    (ap (λ (i : ℕ). chain (s .args .prev .now) (getD (s .args .last .now) i 0)) (c .before .before .before .before .before .before .wide .ensures))
+    (c .before .before .before .children .kept .0) (c .before .before .before .children .ensures)
+
+same-length : tie.Need-same-length Inv-loop μ-loop
+same-length c = c .before .loop .inv .size ∙ length-set (c .before .before .before .before .before .before .before .args .stack .now) 0 0
+
+returns : tie.Need-returns Inv-loop μ-loop
+returns c = ap (λ (b : Best). b .join) (finishes _ _ _ _ _ _ _ _ _ _ _ _ (c .before .loop .inv) (c .loop-test .left))
+
+pub search-spec : {M : Type 1} → statement M
+search-spec =
+    tie.close
+    (tie.spec
+    Inv-loop
+    μ-loop
+    least-one-requires
+    slice-write-stack
+    loop-holds
+    sub-top
+    mul-p
+    slice-read-p
+    spot-at-requires
+    wide-requires
+    mul-first
+    shared-slice-read-first
+    children-requires
+    sub-left
+    loop-less
+    loop-again
+    same-length
+    returns)

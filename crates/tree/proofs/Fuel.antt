@@ -1,0 +1,247 @@
+-- The walk pops each node at most once, so as many turns as there are nodes empty its stack.
+use mathlib.Core.Path.{_≡_, refl, sym, ap, ap₂, subst, _∙_}
+use mathlib.Core.Logic.{_≢_, _⊎_, inl, inr, ⊎-elim}
+use mathlib.Core.Bool.{Bool, true, false, cond}
+use mathlib.Core.List.{List, [], _∷_, _++_}
+use Prim.Native.Nat.{ℕ, zero, suc, _+_, _*_, _-_, _≤_, _<_}
+use native.Mathlib.Decide.{decLt, ℕ-discrete}
+use native.Mathlib.Omega.{arith}
+use lib.ListN.{length, length-append}
+use lib.Dec.{eqb}
+use lib.IntN.{ℤ}
+use Rattle.geometry.specs.declared.Point.{Point}
+use Rattle.geometry.specs.Geometry.{box, nearest}
+use Rattle.tree.specs.Tree.{one}
+use Rattle.tree.specs.Tree.{Node, Parent, none, at, nodeAt, sumTo}
+use Rattle.tree.specs.Search.{Best, Walk, judge, examine, branches, walk, fresh}
+use Rattle.tree.specs.Shape.{Linked, count, isAt}
+use Rattle.tree.proofs.Linking.{one-eq, one-ne, child-in, parent-in, not-own, none-at, out-parent, count-append}
+use Rattle.tree.proofs.Measuring.{at-inj}
+
+one-most : (t : Bool) → one t ≤ 1
+one-most true = omega arith
+one-most false = omega arith
+
+-- ---- distinct numbers below n are at most n
+sum-add : (n : ℕ) (f g : ℕ → ℕ) → sumTo n (λ x. f x + g x) ≡ sumTo n f + sumTo n g
+unfolding sumTo
+sum-add zero f g = refl
+sum-add (suc n) f g = omega (arith, sum-add n f g)
+
+sum-zero : (n : ℕ) (f : ℕ → ℕ) → ((x : ℕ) → x < n → f x ≡ 0) → sumTo n f ≡ 0
+unfolding sumTo
+sum-zero zero f h = refl
+sum-zero (suc n) f h = omega (arith, sum-zero n f (λ x l. h x (omega arith)), h n (omega arith))
+
+sum-most : (n : ℕ) (f : ℕ → ℕ) → ((x : ℕ) → x < n → f x ≤ 1) → sumTo n f ≤ n
+unfolding sumTo
+sum-most zero f h = omega arith
+sum-most (suc n) f h = omega (arith, sum-most n f (λ x l. h x (omega arith)), h n (omega arith))
+
+sum-hit : (n a : ℕ) → a < n → sumTo n (λ x. one (eqb a x)) ≡ 1
+unfolding sumTo
+sum-hit zero a h = absurd (omega arith)
+sum-hit (suc n) a h = by (decLt a n) (sum-hit n a)
+  where
+    by : Dec (a < n) → (a < n → sumTo n (λ x. one (eqb a x)) ≡ 1) → sumTo n (λ x. one (eqb a x)) + one (eqb a n) ≡ 1
+    by (yes l) ih = omega (arith, ih l, one-ne a n (omega arith))
+    by (no l) ih = omega (arith, sum-zero n (λ x. one (eqb a x)) (λ x k. one-ne a x (omega arith)), one-eq a n (omega arith))
+
+length-sum : (n : ℕ) (l : List ℕ) → ((x : ℕ) → 0 < count x l → x < n) → sumTo n (λ x. count x l) ≡ length l
+unfolding count
+length-sum n [] h = sum-zero n _ (λ x k. refl)
+length-sum n (a ∷ l) h =
+    omega (arith, sum-add n (λ x. one (eqb a x)) (λ x. count x l), sum-hit n a (h a (omega (arith, one-eq a a refl))), length-sum n l (λ x k. h x (omega arith)))
+
+pub pigeon : (n : ℕ) (l : List ℕ) → ((x : ℕ) → count x l ≤ 1) → ((x : ℕ) → 0 < count x l → x < n) → length l ≤ n
+pigeon n l once below = omega (arith, length-sum n l below, sum-most n (λ x. count x l) (λ x k. once x))
+
+-- ---- the walk under way: what has been popped, and the stack
+module _ (ns : List Node) (g : Linked ns) where
+  pub record Visit (popped stack : List ℕ) : Type 0 where
+    pub once : (x : ℕ) → count x popped + count x stack ≤ 1
+    pub inside : (x : ℕ) → 0 < count x popped + count x stack → x < length ns
+    pub after : (x p : ℕ) → 0 < count x popped + count x stack → nodeAt ns x .parent ≡ at p → 0 < count p popped
+
+  zero-only : (x : ℕ) → 0 < one (eqb 0 x) → x ≡ 0
+  zero-only x h = by (ℕ-discrete 0 x)
+    where
+      by : Dec (0 ≡ x) → x ≡ 0
+      by (yes e) = sym e
+      by (no e) = absurd (omega (arith, one-ne 0 x e))
+
+  pub visit-start : Visit [] (0 ∷ [])
+  unfolding count
+  visit-start =
+      record {
+        once = λ x. omega (arith, one-most (eqb 0 x));
+        inside = λ x h. omega (arith, zero-only x (omega arith), g .some);
+        after = λ x p h e. none-at (sym (g .top) ∙ ap (λ (i : ℕ). nodeAt ns i .parent) (sym (zero-only x (omega arith))) ∙ e);
+      }
+
+  -- x is a child of p, or not among its children
+  data Kid (p x : ℕ) : Type 0 where
+    child : nodeAt ns x .parent ≡ at p → count x (nodeAt ns p .children) ≡ 1 → Kid p x
+    other : count x (nodeAt ns p .children) ≡ 0 → Kid p x
+
+  kid : (p x : ℕ) → Kid p x
+  kid p x = by (nodeAt ns x .parent) refl
+    where
+      by : (y : Parent) → nodeAt ns x .parent ≡ y → Kid p x
+      by none e = other (g .links p x ∙ ap (isAt p) e)
+      by (at y) e = test (ℕ-discrete p y)
+        where
+          test : Dec (p ≡ y) → Kid p x
+          test (yes f) = child (e ∙ ap at (sym f)) (g .links p x ∙ ap (isAt p) e ∙ one-eq p y f)
+          test (no f) = other (g .links p x ∙ ap (isAt p) e ∙ one-ne p y f)
+
+  -- p is popped, and some of its children pushed
+  module _ (popped rest pushed : List ℕ) (p : ℕ) (v : Visit popped (p ∷ rest)) (h : (x : ℕ) → count x pushed ≤ count x (nodeAt ns p .children) + count x rest) where
+    new-child : (x : ℕ) → nodeAt ns x .parent ≡ at p → count x popped + count x rest ≡ 0
+    unfolding count
+    new-child x e = by (decLt 0 (count x popped + count x rest))
+      where
+        by : Dec (0 < count x popped + count x rest) → count x popped + count x rest ≡ 0
+        by (yes l) = absurd (omega (arith, v .after x p (omega arith) e, v .once p, one-eq p p refl))
+        by (no l) = omega arith
+
+    once-pop : (x : ℕ) → count x (p ∷ popped) + count x pushed ≤ 1
+    unfolding count
+    once-pop x = by (kid p x)
+      where
+        by : Kid p x → one (eqb p x) + count x popped + count x pushed ≤ 1
+        by (child e k) = omega (arith, new-child x e, h x, one-ne p x (λ z. not-own g x p e (sym z)))
+        by (other k) = omega (arith, v .once x, h x)
+
+    inside-pop : (x : ℕ) → 0 < count x (p ∷ popped) + count x pushed → x < length ns
+    unfolding count
+    inside-pop x l = by (kid p x)
+      where
+        by : Kid p x → x < length ns
+        by (child e k) = child-in g x p e
+        by (other k) = v .inside x (omega (arith, h x))
+
+    after-pop : (x y : ℕ) → 0 < count x (p ∷ popped) + count x pushed → nodeAt ns x .parent ≡ at y → 0 < count y (p ∷ popped)
+    unfolding count
+    after-pop x y l e = by (kid p x)
+      where
+        by : Kid p x → 0 < one (eqb p y) + count y popped
+        by (child f k) = omega (arith, one-eq p y (at-inj (sym f ∙ e)))
+        by (other k) = omega (arith, v .after x y (omega (arith, h x)) e)
+
+    pub visit-pop : Visit (p ∷ popped) pushed
+    visit-pop = record { once = once-pop; inside = inside-pop; after = after-pop }
+
+  -- the stack never outgrows the nodes
+  pub visit-room : (popped stack : List ℕ) → Visit popped stack → length popped + length stack ≤ length ns
+  visit-room popped stack v =
+      omega (
+        arith,
+        length-append popped stack,
+        pigeon (length ns) (popped ++ stack) (λ x. omega (arith, count-append x popped stack, v .once x)) (λ x k. v .inside x (omega (arith, count-append x popped stack))),
+      )
+
+  -- ---- the walk
+  module _ (shut : Point → Point → Point → Point → Bool) (limit : ℕ) (allowed : ℤ) (q : Point) where
+    -- only children are pushed
+    pub pushes : (p : ℕ) (cs : List ℕ) (e : Walk) (x : ℕ) → count x (branches shut ns limit allowed q p cs e .stack) ≤ count x cs + count x (e .stack)
+    unfolding branches examine count
+    pushes p [] e x = omega arith
+    pushes p (c ∷ cs) e x =
+        by (shut q (nodeAt ns p .point) (nodeAt ns c .point) (nearest (box (nodeAt ns p .point) (nodeAt ns c .point)) q)) (pushes p cs e x)
+      where
+        by : (t : Bool) → count x (branches shut ns limit allowed q p cs e .stack) ≤ count x cs + count x (e .stack)
+            → count x (cond t (branches shut ns limit allowed q p cs e)
+            (record { found = judge shut ns limit allowed q p c (branches shut ns limit allowed q p cs e .found); stack = c ∷ branches shut ns limit allowed q p cs e .stack }) .stack)
+            ≤ one (eqb c x) + count x cs + count x (e .stack)
+        by true ih = omega arith
+        by false ih = omega arith
+
+    empties : (k : ℕ) (popped stack : List ℕ) (f : Best) → Visit popped stack → k + length popped ≡ length ns → walk shut ns limit allowed q k stack f .stack ≡ []
+    unfolding walk
+    empties zero popped [] f v e = refl
+    empties zero popped (p ∷ rest) f v e = absurd (omega (arith, visit-room popped (p ∷ rest) v))
+    empties (suc k) popped [] f v e = refl
+    empties (suc k) popped (p ∷ rest) f v e =
+        empties k (p ∷ popped) _ _
+        (visit-pop popped rest _ p v (pushes p (nodeAt ns p .children) (record { found = f; stack = rest })))
+        (omega arith)
+
+    -- as many turns as there are nodes are enough
+    pub walk-ends : walk shut ns limit allowed q (length ns) (0 ∷ []) (fresh limit) .stack ≡ []
+    walk-ends = empties (length ns) [] (0 ∷ []) (fresh limit) visit-start (omega arith)
+
+-- ---- each branch is examined at most once
+module _ (shut : Point → Point → Point → Point → Bool) (ns : List Node) (limit : ℕ) (allowed : ℤ) (q : Point) where
+  -- how many branches a walk examines
+  unfoldable pub looks : ℕ → List ℕ → Best → ℕ
+  looks zero stack f = 0
+  looks (suc k) [] f = 0
+  looks (suc k) (p ∷ rest) f =
+      let e = branches shut ns limit allowed q p (nodeAt ns p .children) (record { found = f; stack = rest }) in
+      length (nodeAt ns p .children) + looks k (e .stack) (e .found)
+
+module _ (ns : List Node) (g : Linked ns) where
+  -- the children of several nodes
+  kidsAll : List ℕ → List ℕ
+  kidsAll [] = []
+  kidsAll (p ∷ ps) = nodeAt ns p .children ++ kidsAll ps
+
+  abbrev parentIn : List ℕ → Parent → ℕ
+  parentIn ps none = 0
+  parentIn ps (at y) = count y ps
+
+  count-kids : (x : ℕ) (ps : List ℕ) → count x (kidsAll ps) ≡ parentIn ps (nodeAt ns x .parent)
+  unfolding kidsAll count
+  count-kids x [] = by (nodeAt ns x .parent)
+    where
+      by : (y : Parent) → 0 ≡ parentIn [] y
+      by none = refl
+      by (at y) = refl
+  count-kids x (p ∷ ps) = count-append x (nodeAt ns p .children) (kidsAll ps) ∙ ap₂ _+_ (g .links p x) (count-kids x ps) ∙ by (nodeAt ns x .parent)
+    where
+      by : (y : Parent) → isAt p y + parentIn ps y ≡ parentIn (p ∷ ps) y
+      by none = refl
+      by (at y) = refl
+
+  kids-room : (popped stack : List ℕ) → Visit ns g popped stack → length (kidsAll popped) < length ns
+  unfolding count
+  kids-room popped stack v = pigeon (length ns) (0 ∷ kidsAll popped) once below
+    where
+      below : (x : ℕ) → 0 < one (eqb 0 x) + count x (kidsAll popped) → x < length ns
+      below x h = by (decLt x (length ns))
+        where
+          by : Dec (x < length ns) → x < length ns
+          by (yes l) = l
+          by (no l) = absurd (omega (arith, one-ne 0 x (omega (arith, g .some)), count-kids x popped, ap (parentIn popped) (out-parent g x (omega arith))))
+
+      once : (x : ℕ) → one (eqb 0 x) + count x (kidsAll popped) ≤ 1
+      once x = by (nodeAt ns x .parent) refl
+        where
+          by : (y : Parent) → nodeAt ns x .parent ≡ y → one (eqb 0 x) + count x (kidsAll popped) ≤ 1
+          by none e = omega (arith, one-most (eqb 0 x), count-kids x popped, ap (parentIn popped) e)
+          by (at y) e =
+              omega (
+                arith,
+                count-kids x popped,
+                ap (parentIn popped) e,
+                v .once y,
+                one-ne 0 x (λ z. none-at (sym (g .top) ∙ ap (λ (i : ℕ). nodeAt ns i .parent) z ∙ e)),
+              )
+
+  module _ (shut : Point → Point → Point → Point → Bool) (limit : ℕ) (allowed : ℤ) (q : Point) where
+    looks-room : (k : ℕ) (popped stack : List ℕ) (f : Best) → Visit ns g popped stack → length (kidsAll popped) + looks shut ns limit allowed q k stack f < length ns
+    unfolding looks kidsAll
+    looks-room zero popped stack f v = omega (arith, kids-room popped stack v)
+    looks-room (suc k) popped [] f v = omega (arith, kids-room popped [] v)
+    looks-room (suc k) popped (p ∷ rest) f v =
+        let e = branches shut ns limit allowed q p (nodeAt ns p .children) (record { found = f; stack = rest }) in
+        omega (
+          arith,
+          length-append (nodeAt ns p .children) (kidsAll popped),
+          looks-room k (p ∷ popped) (e .stack) (e .found) (visit-pop ns g popped rest (e .stack) p v (pushes ns g shut limit allowed q p (nodeAt ns p .children) (record { found = f; stack = rest }))),
+        )
+
+    pub looks-few : looks shut ns limit allowed q (length ns) (0 ∷ []) (fresh limit) < length ns
+    unfolding kidsAll
+    looks-few = omega (arith, looks-room (length ns) [] (0 ∷ []) (fresh limit) (visit-start ns g))

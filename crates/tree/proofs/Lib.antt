@@ -1,0 +1,16 @@
+pub mod Order
+pub mod Alike
+pub mod Nodes
+pub mod Linking
+pub mod Measuring
+pub mod Naming
+pub mod Searching
+pub mod Routing
+pub mod Fuel
+pub mod Cost
+pub mod Every
+pub mod Spread
+pub mod Loops
+pub mod Fitting
+pub mod Forming
+pub mod Splicing

@@ -1,0 +1,333 @@
+-- The order of terminals: `ordered s` is a total order of points, and `place` commutes. So a fold whose steps commute depends on how often each point stands there.
+use mathlib.Core.Path.{_≡_, refl, sym, ap, ap₂, subst, _∙_}
+use mathlib.Core.Logic.{_⊎_, inl, inr, ⊎-elim}
+use mathlib.Core.Bool.{Bool, true, false, _&&_, _||_, cond}
+use mathlib.Core.List.{List, [], _∷_, foldr}
+use Prim.Native.Nat.{ℕ, zero, suc, _+_, _≤_, _<_, max}
+use native.Mathlib.Decide.{decLe, decLt}
+use native.Mathlib.Omega.{arith}
+use lib.Dec.{T, ltb, eqb}
+use lib.IntN.{ℤ, pos, negsuc}
+use lib.Signed.{leZ, ltZ, mag}
+use borrow.Author.Tests.{ltb-true, ltb-false, eqb-true, lt-ltb, le-ltb, eq-eqb, le-leb}
+use Rattle.geometry.specs.declared.Point.{Point}
+use Rattle.geometry.specs.Geometry.{dist, same, eqZ}
+use Rattle.tree.specs.Tree.{one}
+use Rattle.tree.specs.Route.{ordered, place, times, SameTerminals, sort, farthest, directs}
+use Rattle.geometry.specs.Signed.{bias, In, lt-yes, lt-no, le-yes, le-no, bias-inj}
+
+-- ---- Boolean tests
+pub clash : {X : Type 0} → false ≡ true → X
+clash e = absurd (subst T (sym e) tt)
+
+pub clash′ : {X : Type 0} → true ≡ false → X
+clash′ e = absurd (subst T e tt)
+
+pub or-split : (a b : Bool) → a || b ≡ true → (a ≡ true) ⊎ (b ≡ true)
+or-split true b e = inl refl
+or-split false b e = inr e
+
+pub and-split : (a b : Bool) → a && b ≡ true → (a ≡ true) × (b ≡ true)
+and-split true b e = (refl, e)
+and-split false b e = clash e
+
+pub and-join : (a b : Bool) → a ≡ true → b ≡ true → a && b ≡ true
+and-join a b e f = subst (λ (x : Bool). x && b ≡ true) (sym e) f
+
+pub or-left : (a b : Bool) → a ≡ true → a || b ≡ true
+or-left a b e = subst (λ (x : Bool). x || b ≡ true) (sym e) refl
+
+pub or-right : (a b : Bool) → b ≡ true → a || b ≡ true
+or-right true b e = refl
+or-right false b e = e
+
+pub both-ways : (a b : Bool) → (a ≡ true → b ≡ true) → (b ≡ true → a ≡ true) → a ≡ b
+both-ways true b f g = sym (f refl)
+both-ways false true f g = g refl
+both-ways false false f g = refl
+
+-- ---- three numbers, the first that differs decides
+pub data Lex (a b c d e f : ℕ) : Type 0 where
+  first : a < d → Lex a b c d e f
+  second : a ≡ d → b < e → Lex a b c d e f
+  third : a ≡ d → b ≡ e → c ≤ f → Lex a b c d e f
+
+lex-trans : {a b c d e f g h i : ℕ} → Lex a b c d e f → Lex d e f g h i → Lex a b c g h i
+lex-trans (first p) (first q) = first (omega arith)
+lex-trans (first p) (second q r) = first (omega arith)
+lex-trans (first p) (third q r s) = first (omega arith)
+lex-trans (second p q) (first r) = first (omega arith)
+lex-trans (second p q) (second r s) = second (omega arith) (omega arith)
+lex-trans (second p q) (third r s t) = second (omega arith) (omega arith)
+lex-trans (third p q r) (first s) = first (omega arith)
+lex-trans (third p q r) (second s t) = second (omega arith) (omega arith)
+lex-trans (third p q r) (third s t u) = third (omega arith) (omega arith) (omega arith)
+
+pub record Equal3 (a b c d e f : ℕ) : Type 0 where
+  pub one : a ≡ d
+  pub two : b ≡ e
+  pub three : c ≡ f
+
+lex-anti : {a b c d e f : ℕ} → Lex a b c d e f → Lex d e f a b c → Equal3 a b c d e f
+lex-anti (first p) (first q) = absurd (omega arith)
+lex-anti (first p) (second q r) = absurd (omega arith)
+lex-anti (first p) (third q r s) = absurd (omega arith)
+lex-anti (second p q) (first r) = absurd (omega arith)
+lex-anti (second p q) (second r s) = absurd (omega arith)
+lex-anti (second p q) (third r s t) = absurd (omega arith)
+lex-anti (third p q r) (first s) = absurd (omega arith)
+lex-anti (third p q r) (second s t) = absurd (omega arith)
+lex-anti (third p q r) (third s t u) = record { one = p; two = q; three = omega arith }
+
+pub data Tri (a b : ℕ) : Type 0 where
+  less : a < b → Tri a b
+  equal : a ≡ b → Tri a b
+  more : b < a → Tri a b
+
+pub tri : (a b : ℕ) → Tri a b
+tri a b = by (decLt a b) (decLt b a)
+  where
+    by : Dec (a < b) → Dec (b < a) → Tri a b
+    by (yes h) d = less h
+    by (no h) (yes k) = more k
+    by (no h) (no k) = equal (omega arith)
+
+lex-total : (a b c d e f : ℕ) → Lex a b c d e f ⊎ Lex d e f a b c
+lex-total a b c d e f = by (tri a d) (tri b e) (tri c f)
+  where
+    by : Tri a d → Tri b e → Tri c f → Lex a b c d e f ⊎ Lex d e f a b c
+    by (less h) y z = inl (first h)
+    by (more h) y z = inr (first h)
+    by (equal h) (less i) z = inl (second h i)
+    by (equal h) (more i) z = inr (second (sym h) i)
+    by (equal h) (equal i) (less j) = inl (third h i (omega arith))
+    by (equal h) (equal i) (equal j) = inl (third h i (omega arith))
+    by (equal h) (equal i) (more j) = inr (third (sym h) (sym i) (omega arith))
+
+-- ---- the order of points, in numbers biased by K
+module _ (s : Point) (K : ℕ) where
+  abbrev LexP : Point → Point → Type 0
+  LexP p q = Lex (dist s p) (bias K (p .xcoord)) (bias K (p .ycoord)) (dist s q) (bias K (q .xcoord)) (bias K (q .ycoord))
+
+  abbrev InPoint : Point → Type 0
+  InPoint p = In K (p .xcoord) × In K (p .ycoord)
+
+  eqZ-bias : (a b : ℤ) → In K a → In K b → eqZ a b ≡ true → bias K a ≡ bias K b
+  eqZ-bias a b f g e = let h = and-split (leZ a b) (leZ b a) e in omega (arith, le-yes a b f g (h .0), le-yes b a g f (h .1))
+
+  le-test : (a b : ℤ) → In K a → In K b → bias K a ≤ bias K b → leZ a b ≡ true
+  le-test a b f g h = by (leZ a b) refl
+    where
+      by : (t : Bool) → leZ a b ≡ t → t ≡ true
+      by true e = refl
+      by false e = absurd (omega (arith, le-no a b f g e))
+
+  lt-test : (a b : ℤ) → In K a → In K b → bias K a < bias K b → ltZ a b ≡ true
+  lt-test a b f g h = by (ltZ a b) refl
+    where
+      by : (t : Bool) → ltZ a b ≡ t → t ≡ true
+      by true e = refl
+      by false e = absurd (omega (arith, lt-no a b f g e))
+
+  ordered-lex : (p q : Point) → InPoint p → InPoint q → ordered s p q ≡ true → LexP p q
+  unfolding ordered
+  ordered-lex p q f g e =
+      ⊎-elim (λ h. first (ltb-true _ _ h))
+      (λ h. let k = and-split _ _ h in
+      ⊎-elim (λ l. second (eqb-true _ _ (k .0)) (lt-yes _ _ (f .0) (g .0) l))
+      (λ l. let m = and-split _ _ l in third (eqb-true _ _ (k .0)) (eqZ-bias _ _ (f .0) (g .0) (m .0)) (le-yes _ _ (f .1) (g .1) (m .1)))
+      (or-split _ _ (k .1)))
+      (or-split _ _ e)
+
+  lex-ordered : (p q : Point) → InPoint p → InPoint q → LexP p q → ordered s p q ≡ true
+  unfolding ordered
+  lex-ordered p q f g (first h) = or-left _ _ (lt-ltb _ _ h)
+  lex-ordered p q f g (second h i) =
+      or-right (ltb (dist s p) (dist s q)) _ (and-join _ _ (eq-eqb _ _ h) (or-left _ _ (lt-test _ _ (f .0) (g .0) i)))
+  lex-ordered p q f g (third h i j) =
+      or-right (ltb (dist s p) (dist s q)) _ (and-join _ _ (eq-eqb _ _ h) (or-right (ltZ (p .xcoord) (q .xcoord)) _
+      (and-join _ _ (and-join _ _ (le-test _ _ (f .0) (g .0) (omega arith)) (le-test _ _ (g .0) (f .0) (omega arith))) (le-test _ _ (f .1) (g .1) j))))
+
+-- ---- with a bias above the numbers of three points
+module _ (s p q r : Point) where
+  abbrev K : ℕ
+  K = suc (mag (p .xcoord) + mag (p .ycoord) + mag (q .xcoord) + mag (q .ycoord) + mag (r .xcoord) + mag (r .ycoord))
+
+  in-p : InPoint s K p
+  in-p = (record { below = omega arith }, record { below = omega arith })
+
+  in-q : InPoint s K q
+  in-q = (record { below = omega arith }, record { below = omega arith })
+
+  in-r : InPoint s K r
+  in-r = (record { below = omega arith }, record { below = omega arith })
+
+  pub ordered-trans : ordered s p q ≡ true → ordered s q r ≡ true → ordered s p r ≡ true
+  ordered-trans e f = lex-ordered s K p r in-p in-r (lex-trans (ordered-lex s K p q in-p in-q e) (ordered-lex s K q r in-q in-r f))
+
+module _ (s p q : Point) where
+  pub ordered-total : ordered s p q ≡ false → ordered s q p ≡ true
+  ordered-total e =
+      ⊎-elim (λ h. clash′ (sym (lex-ordered s (K s p q q) p q (in-p s p q q) (in-q s p q q) h) ∙ e)) (λ h. lex-ordered s (K s p q q) q p (in-q s p q q) (in-p s p q q) h)
+      (lex-total (dist s p) (bias (K s p q q) (p .xcoord)) (bias (K s p q q) (p .ycoord)) (dist s q) (bias (K s p q q) (q .xcoord)) (bias (K s p q q) (q .ycoord)))
+
+  pub ordered-anti : ordered s p q ≡ true → ordered s q p ≡ true → p ≡ q
+  ordered-anti e f =
+      let l = lex-anti (ordered-lex s (K s p q q) p q (in-p s p q q) (in-q s p q q) e) (ordered-lex s (K s p q q) q p (in-q s p q q) (in-p s p q q) f) in
+      λ i. record {
+        xcoord = bias-inj _ _ (in-p s p q q .0) (in-q s p q q .0) (l .two) i;
+        ycoord = bias-inj _ _ (in-p s p q q .1) (in-q s p q q .1) (l .three) i;
+      }
+
+-- ---- placing commutes
+module _ (s : Point) where
+  place-yes : (p q : Point) (l : List Point) → ordered s p q ≡ true → place s p (q ∷ l) ≡ p ∷ q ∷ l
+  unfolding place
+  place-yes p q l e = ap (λ (t : Bool). cond t (p ∷ q ∷ l) (q ∷ place s p l)) e
+
+  place-no : (p q : Point) (l : List Point) → ordered s p q ≡ false → place s p (q ∷ l) ≡ q ∷ place s p l
+  unfolding place
+  place-no p q l e = ap (λ (t : Bool). cond t (p ∷ q ∷ l) (q ∷ place s p l)) e
+
+  not-both : {X : Type 0} (p q : Point) → ordered s p q ≡ false → ordered s q p ≡ false → X
+  not-both p q e f = clash (sym f ∙ ordered-total s p q e)
+
+  place-nil : (p : Point) → place s p [] ≡ p ∷ []
+  unfolding place
+  place-nil p = refl
+
+  two : (a b : Point) (t u : Bool) → ordered s a b ≡ t → ordered s b a ≡ u → place s a (place s b []) ≡ place s b (place s a [])
+  two a b true true e f = let h = ordered-anti s a b e f in λ i. place s (h i) (place s (sym h i) [])
+  two a b true false e f = cc (place-nil a, place-nil b, place-yes a b [] e, place-no b a [] f)
+  two a b false true e f = cc (place-nil a, place-nil b, place-no a b [] e, place-yes b a [] f)
+  two a b false false e f = not-both a b e f
+
+  module _ (a b x : Point) (l : List Point) where
+    three : (t u v w : Bool) → ordered s a x ≡ t → ordered s b x ≡ u → ordered s a b ≡ v → ordered s b a ≡ w
+        → place s a (place s b l) ≡ place s b (place s a l) → place s a (place s b (x ∷ l)) ≡ place s b (place s a (x ∷ l))
+    three false false v w e f g h ih =
+        cc (place-no a x l e, place-no b x l f, place-no a x (place s b l) e, place-no b x (place s a l) f, ih)
+    three true false v true e f g h ih = clash (sym f ∙ ordered-trans s b a x h e)
+    three true false v false e f g h ih =
+        cc (place-yes a x l e, place-no b x l f, place-yes a x (place s b l) e, place-no b a (x ∷ l) h)
+    three false true true w e f g h ih = clash (sym e ∙ ordered-trans s a b x g f)
+    three false true false w e f g h ih =
+        cc (place-no a x l e, place-yes b x l f, place-yes b x (place s a l) f, place-no a b (x ∷ l) g)
+    three true true true true e f g h ih = let k = ordered-anti s a b g h in λ i. place s (k i) (place s (sym k i) (x ∷ l))
+    three true true true false e f g h ih =
+        cc (place-yes a x l e, place-yes b x l f, place-yes a b (x ∷ l) g, place-no b a (x ∷ l) h)
+    three true true false true e f g h ih =
+        cc (place-yes a x l e, place-yes b x l f, place-no a b (x ∷ l) g, place-yes b a (x ∷ l) h)
+    three true true false false e f g h ih = not-both a b g h
+
+  pub place-comm : (a b : Point) (l : List Point) → place s a (place s b l) ≡ place s b (place s a l)
+  place-comm a b [] = two a b (ordered s a b) (ordered s b a) refl refl
+  place-comm a b (x ∷ l) = three a b x l (ordered s a x) (ordered s b x) (ordered s a b) (ordered s b a) refl refl refl refl (place-comm a b l)
+
+-- ---- the test that two points are the same
+eqZ-eq : (a b : ℤ) → eqZ a b ≡ true → a ≡ b
+eqZ-eq a b e = bias-inj a b fa fb (eqZ-bias zero-point (suc (mag a + mag b)) a b fa fb e)
+  where
+    zero-point : Point
+    zero-point = record { xcoord = a; ycoord = b }
+
+    fa : In (suc (mag a + mag b)) a
+    fa = record { below = omega arith }
+
+    fb : In (suc (mag a + mag b)) b
+    fb = record { below = omega arith }
+
+pub same-eq : (p q : Point) → same p q ≡ true → p ≡ q
+unfolding same
+same-eq p q e =
+    let h = and-split (eqZ (p .xcoord) (q .xcoord)) (eqZ (p .ycoord) (q .ycoord)) e in
+    λ i. record { xcoord = eqZ-eq (p .xcoord) (q .xcoord) (h .0) i; ycoord = eqZ-eq (p .ycoord) (q .ycoord) (h .1) i }
+
+leZ-refl : (a : ℤ) → leZ a a ≡ true
+leZ-refl (pos n) = le-leb n n (omega arith)
+leZ-refl (negsuc n) = le-leb n n (omega arith)
+
+pub same-refl : (p : Point) → same p p ≡ true
+unfolding same
+same-refl p =
+    and-join _ _ (and-join _ _ (leZ-refl (p .xcoord)) (leZ-refl (p .xcoord))) (and-join _ _ (leZ-refl (p .ycoord)) (leZ-refl (p .ycoord)))
+
+-- ---- a fold whose steps commute
+module _ {B : Type 0} (step : Point → B → B) (z : B) (comm : (a b : Point) (r : B) → step a (step b r) ≡ step b (step a r)) where
+  abbrev Out : Point → List Point → Type 0
+  Out a us = (r : List Point) × (foldr step z us ≡ step a (foldr step z r)) × ((p : Point) → times p (a ∷ r) ≡ times p us)
+
+  -- one a taken out of us
+  take-out : (a : Point) (us : List Point) → 0 < times a us → Out a us
+  unfolding times
+  take-out a [] h = absurd (omega arith)
+  take-out a (u ∷ us) h = by (same a u) refl (take-out a us)
+    where
+      by : (t : Bool) → same a u ≡ t → (0 < times a us → Out a us) → Out a (u ∷ us)
+      by true e ih = let k = same-eq a u e in (us, ap (λ (c : Point). step c (foldr step z us)) (sym k), λ p. ap (λ (c : Point). one (same p c) + times p us) k)
+      by false e ih =
+          let r = ih (omega (arith, ap one e)) in
+          (u ∷ r .0, ap (step u) (r .1) ∙ comm u a _, λ p. omega (arith, r .2 p))
+
+  pub same-fold : (ts us : List Point) → SameTerminals ts us → foldr step z ts ≡ foldr step z us
+  unfolding times
+  same-fold [] [] h = refl
+  same-fold [] (u ∷ us) h = absurd (omega (arith, h u, ap one (same-refl u)))
+  same-fold (t ∷ ts) us h =
+      let r = take-out t us (omega (arith, h t, ap one (same-refl t))) in
+      ap (step t) (same-fold ts (r .0) (λ p. omega (arith, h p, r .2 p))) ∙ sym (r .1)
+
+pub sort-same : (s : Point) (ts us : List Point) → SameTerminals ts us → sort s ts ≡ sort s us
+sort-same s ts us h = same-fold (place s) [] (place-comm s) ts us h
+
+pub farthest-same : (s : Point) (ts us : List Point) → SameTerminals ts us → farthest s ts ≡ farthest s us
+farthest-same s ts us h = same-fold (λ p w. max (dist s p) w) 0 (λ a b r. omega arith) ts us h
+
+-- ---- what sorting keeps
+module _ (s : Point) where
+  times-place : (p a : Point) (l : List Point) → times p (place s a l) ≡ one (same p a) + times p l
+  unfolding times place
+  times-place p a [] = refl
+  times-place p a (x ∷ l) = by (ordered s a x) refl (times-place p a l)
+    where
+      by : (t : Bool) → ordered s a x ≡ t → times p (place s a l) ≡ one (same p a) + times p l
+          → times p (cond t (a ∷ x ∷ l) (x ∷ place s a l)) ≡ one (same p a) + (one (same p x) + times p l)
+      by true e ih = refl
+      by false e ih = omega arith
+
+  -- the sorted terminals are the terminals, each as often
+  pub times-sort : (ts : List Point) → SameTerminals (sort s ts) ts
+  unfolding times
+  times-sort [] p = refl
+  times-sort (t ∷ ts) p = omega (arith, times-place p t (sort s ts), times-sort ts p)
+
+  pub farthest-sort : (ts : List Point) → farthest s (sort s ts) ≡ farthest s ts
+  farthest-sort ts = farthest-same s (sort s ts) ts (times-sort ts)
+
+  pub directs-sort : (ts : List Point) → directs s (sort s ts) ≡ directs s ts
+  directs-sort ts = same-fold (λ p w. dist s p + w) 0 (λ a b r. omega arith) (sort s ts) ts (times-sort ts)
+
+  -- in order
+  pub data Sorted : List Point → Type 0 where
+    sorted-nil : Sorted []
+    sorted-one : {p : Point} → Sorted (p ∷ [])
+    sorted-more : {p q : Point} {l : List Point} → ordered s p q ≡ true → Sorted (q ∷ l) → Sorted (p ∷ q ∷ l)
+
+  placed : (a : Point) {l : List Point} → Sorted l → Sorted (place s a l)
+  unfolding place
+  placed a sorted-nil = sorted-one
+  placed a (sorted-one {p = x}) = by (ordered s a x) refl
+    where
+      by : (t : Bool) → ordered s a x ≡ t → Sorted (cond t (a ∷ x ∷ []) (x ∷ a ∷ []))
+      by true e = sorted-more e sorted-one
+      by false e = sorted-more (ordered-total s a x e) sorted-one
+  placed a (sorted-more {p = x} {q = y} {l = l} h r) = by (ordered s a x) (ordered s a y) refl refl (placed a r)
+    where
+      by : (t u : Bool) → ordered s a x ≡ t → ordered s a y ≡ u → Sorted (cond u (a ∷ y ∷ l) (y ∷ place s a l)) → Sorted (cond t (a ∷ x ∷ y ∷ l) (x ∷ cond u (a ∷ y ∷ l) (y ∷ place s a l)))
+      by true u e f ih = sorted-more e (sorted-more h r)
+      by false true e f ih = sorted-more (ordered-total s a x e) ih
+      by false false e f ih = sorted-more h ih
+
+  pub sort-sorted : (ts : List Point) → Sorted (sort s ts)
+  sort-sorted [] = sorted-nil
+  sort-sorted (t ∷ ts) = placed t (sort-sorted ts)

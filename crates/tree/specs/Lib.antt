@@ -1,0 +1,7 @@
+pub mod Limits
+pub mod Tree
+pub mod Search
+pub mod Route
+pub mod Shape
+pub mod WellFormed
+pub mod Memory

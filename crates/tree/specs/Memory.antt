@@ -1,0 +1,31 @@
+-- A node in memory, as the definitions' node. Definitions only.
+use Prim.Native.Nat.{ℕ}
+use mathlib.Core.List.{List}
+use Rattle.tree.specs.Tree as D
+use Rattle.tree.specs.declared.NodeName.{NodeName}
+use Rattle.tree.specs.declared.NodeName.the-variants.{Source, Steiner, Terminal}
+use Rattle.tree.specs.declared.Parent.{Parent}
+use Rattle.tree.specs.declared.Parent.the-variants.{None, At}
+use Rattle.tree.specs.declared.RoutingNode.{RoutingNode}
+
+abbrev pub nameIn : NodeName → D.Name
+nameIn Source = D.source
+nameIn (Steiner k) = D.steiner (k .0)
+nameIn (Terminal k) = D.terminal (k .0)
+
+abbrev pub parentIn : Parent → D.Parent
+parentIn None = D.none
+parentIn (At p) = D.at (p .0)
+
+-- with its list of children
+abbrev pub nodeIn : RoutingNode → List ℕ → D.Node
+nodeIn n cs =
+    record {
+      name = nameIn (n .name);
+      parent = parentIn (n .parent);
+      point = n .pt;
+      children = cs;
+      path = n .«path_length»;
+      capacitance = n .capacitance;
+      delay = n .delay;
+    }

@@ -1,0 +1,80 @@
+-- What every tree that the calls give is: its links agree and lead to the source, its names are distinct; and of a routed one, that path lengths are Manhattan sums.
+use mathlib.Core.Path.{_≡_}
+use mathlib.Core.List.{List, [], _∷_}
+use Prim.Native.Nat.{ℕ, zero, suc, _+_, _≤_, _<_}
+use lib.ListN.{length}
+use lib.Dec.{eqb}
+use lib.IntN.{ℤ, pos}
+use lib.Signed.{_≤ℤ_}
+use Rattle.geometry.specs.declared.Point.{Point}
+use Rattle.geometry.specs.Geometry.{dist}
+use Rattle.tree.specs.Tree.{one}
+use Rattle.tree.specs.Tree.{Node, Tree, Name, source, steiner, terminal, Parent, none, at, nodeAt, terminals, numbered, climb, climbed, total}
+use Rattle.tree.specs.Route.{sort, farthest, directs, SameTerminals}
+
+-- how often c stands in a list of children
+unfoldable pub count : ℕ → List ℕ → ℕ
+count c [] = 0
+count c (a ∷ r) = one (eqb a c) + count c r
+
+-- 1 where the parent is p, else 0
+abbrev pub isAt : ℕ → Parent → ℕ
+isAt p none = 0
+isAt p (at x) = one (eqb p x)
+
+pub record Linked (ns : List Node) : Type 0 where
+  pub some : 0 < length ns
+  pub top : nodeAt ns 0 .parent ≡ none
+  pub others : (i : ℕ) → i < length ns → nodeAt ns i .parent ≡ none → i ≡ 0
+  -- p's children are the nodes whose parent is p, each once
+  pub links : (p c : ℕ) → count c (nodeAt ns p .children) ≡ isAt p (nodeAt ns c .parent)
+  -- each step to a parent falls
+  pub rank : ℕ → ℕ
+  pub small : (i : ℕ) → i < length ns → rank i < length ns
+  pub falls : (c p : ℕ) → nodeAt ns c .parent ≡ at p → rank p < rank c
+
+pub record Measured (s : Point) (ns : List Node) : Type 0 where
+  pub source-point : nodeAt ns 0 .point ≡ s
+  pub source-path : nodeAt ns 0 .path ≡ 0
+  pub paths : (c p : ℕ) → nodeAt ns c .parent ≡ at p → nodeAt ns c .path ≡ nodeAt ns p .path + dist (nodeAt ns p .point) (nodeAt ns c .point)
+
+-- a number from 1 up to what is given next
+abbrev pub Given : ℕ → ℕ → Name → Type 0
+Given st te source = ⊥
+Given st te (steiner k) = (0 < k) × (k < st)
+Given st te (terminal k) = (0 < k) × (k < te)
+
+-- names of n nodes, by index; st and te are the numbers that are given next
+pub record Named (n : ℕ) (name : ℕ → Name) (st te : ℕ) : Type 0 where
+  pub steiners : 0 < st
+  pub terminals : 0 < te
+  pub source-name : name 0 ≡ source
+  pub given : (i : ℕ) → 0 < i → i < n → Given st te (name i)
+  pub distinct : (i j : ℕ) → i < n → j < n → name i ≡ name j → i ≡ j
+
+abbrev pub nameOf : List Node → ℕ → Name
+nameOf ns i = nodeAt ns i .name
+
+-- a terminal at distance d from the source, and its path of length l: within the allowance where it can be, and never longer than w
+pub record Ceiling (allowed : ℤ) (w d l : ℕ) : Type 0 where
+  pub inside : pos d ≤ℤ allowed → pos l ≤ℤ allowed
+  pub outside : (pos d ≤ℤ allowed → ⊥) → l ≤ w
+
+abbrev pub Bounded : Point → ℤ → ℕ → List Node → Type 0
+Bounded s allowed w ns = (i k : ℕ) → i < length ns → nameOf ns i ≡ terminal k → Ceiling allowed w (dist s (nodeAt ns i .point)) (nodeAt ns i .path)
+
+-- ---- demand 3, of the tree that a job with constraints gets
+pub record Meets (s : Point) (ts : List Point) (t : Tree) : Type 0 where
+  -- "The points of the terminal nodes, by number from 1, are the job's terminals as sorted."
+  pub by-number : terminals (t .nodes) ≡ numbered 1 (sort s ts)
+  -- "Its terminals are exactly the job's, each as often as the job has it."
+  pub as-often : SameTerminals (sort s ts) ts
+  -- "From every node the parents lead to the source": "repeated steps from a node to its parent, at most as many as there are nodes, end at index 0"
+  pub to-source : (i : ℕ) → i < length (t .nodes) → climb (t .nodes) (length (t .nodes)) i ≡ 0
+  -- "and every path length equals the Manhattan sum along those parents"
+  pub path-sums : (i : ℕ) → i < length (t .nodes) → nodeAt (t .nodes) i .path ≡ climbed (t .nodes) (length (t .nodes)) i
+  -- "Every terminal no farther from the source than the allowance has a path no longer than the allowance. Every other terminal has a path no longer
+  -- than the farthest terminal's distance."
+  pub ceilings : Bounded s (t .allowed) (farthest s ts) (t .nodes)
+  -- "The total is at most the sum of all terminals' direct distances."
+  pub total-low : total (t .nodes) ≤ directs s ts
