@@ -35,8 +35,8 @@ memory t nodes allowed =
       last = t .last;
       prev = t .prev;
       count = t .counts .nodes;
-      «next_steiner_id» = record { 0 = t .counts .steiner };
-      «next_terminal_id» = record { 0 = t .counts .terminal };
+      «next_steiner_id» = t .counts .steiner;
+      «next_terminal_id» = t .counts .terminal;
       «worst_wirelength» = t .limit;
       allowed = allowed;
       farthest = t .farthest;
@@ -53,8 +53,8 @@ module _ (t : Table) (v : Tabled t) (n : ℕ) (is-n : n ≡ t .counts .nodes) (n
         allowed = t .allowed;
         farthest = t .farthest;
         limit = t .limit;
-        nextSteiner = t .counts .steiner;
-        nextTerminal = t .counts .terminal;
+        nextSteiner = t .counts .steiner .0;
+        nextTerminal = t .counts .terminal .0;
       }
 
   size : length (tableTree t .nodes) ≡ t .counts .nodes

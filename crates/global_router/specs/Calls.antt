@@ -48,7 +48,7 @@ pub record Tabled (t : Table) : Type 0 where
   pub keeps : Keeps (tableTree t .nodes) (tableColumns t)
   pub sized : Sized mostNodes (tableColumns t)
   pub few : t .counts .nodes ≤ mostNodes
-  pub steiners : t .counts .steiner ≤ mostNodes + 1
+  pub steiners : t .counts .steiner .0 ≤ mostNodes + 1
   pub limit-small : t .limit ≤ noLimit
   pub farthest-small : t .farthest ≤ across
 

@@ -85,14 +85,16 @@ fn from_table(t: Table) -> GlobalRoutingTree
     let prev = t.prev;
     let k = t.counts;
     let n = search::wide(k.nodes);
+    let steiner = k.steiner;
+    let terminal = k.terminal;
     let nodes = nodes::pack(&xs, &ys, &path, &parent, &kind, &number, n);
     GlobalRoutingTree {
         nodes: nodes,
         last: last,
         prev: prev,
         count: k.nodes,
-        next_steiner_id: SteinerNumber(k.steiner),
-        next_terminal_id: TerminalNumber(k.terminal),
+        next_steiner_id: steiner,
+        next_terminal_id: terminal,
         worst_wirelength: t.limit,
         allowed: t.allowed,
         farthest: t.farthest,

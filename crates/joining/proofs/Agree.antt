@@ -1,19 +1,17 @@
 -- A tree whose links agree is one that the search can walk: lists of children as counts, and as members.
-use Prim.Native.Nat.{ℕ, zero, suc, _+_, _*_, _≤_, _<_}
-use mathlib.Core.Path.{_≡_, refl, ap, sym, subst, _∙_}
-use mathlib.Core.Logic.{_≢_, _⊎_, inl, inr, ⊎-elim}
+use Prim.Native.Nat.{ℕ, _≤_, _<_}
+use mathlib.Core.Path.{_≡_, refl, ap, sym, _∙_}
+use mathlib.Core.Logic.{_⊎_, inl, inr, ⊎-elim}
 use mathlib.Core.Bool.{Bool, true, false}
-use mathlib.Core.List.{List, [], _∷_, _++_, reverse, reverse-cons}
+use mathlib.Core.List.{List, [], _∷_, reverse, reverse-cons}
 use native.Mathlib.Omega.{arith}
 use lib.ListN.{length}
 use lib.Dec.{eqb}
 use borrow.Author.Tests.{eqb-true}
 use Rattle.tree.specs.Limits.{longestPath, reach}
-use Rattle.geometry.specs.Laws.{Within}
-use Rattle.tree.specs.Tree.{one}
-use Rattle.tree.specs.Tree.{Node, Parent, none, at, nodeAt}
+use Rattle.tree.specs.Tree.{one, Node, Parent, none, at, nodeAt}
 use Rattle.tree.specs.Shape.{Linked, count, isAt}
-use Rattle.tree.proofs.Linking.{one-eq, one-ne, count-snoc, child-in, parent-in, counted, none-at, out-parent}
+use Rattle.tree.proofs.Linking.{one-eq, count-snoc, child-in, counted, none-at, out-parent}
 use Rattle.tree.proofs.Measuring.{at-inj}
 use Rattle.tree.proofs.Searching.{own}
 use Rattle.tree.proofs.Spread.{Spread}

@@ -1,15 +1,12 @@
 -- The columns after a terminal joins a node.
-use Prim.Native.Nat.{ℕ, zero, suc, _+_, _≤_, _<_}
-use mathlib.Core.Path.{_≡_, refl, ap, sym, subst, _∙_}
+use Prim.Native.Nat.{ℕ, _+_, _<_}
+use mathlib.Core.Path.{_≡_, ap, sym, subst, _∙_}
 use mathlib.Core.Logic.{_≢_}
-use mathlib.Core.List.{List, [], _∷_, _++_, reverse}
+use mathlib.Core.List.{List, [], _∷_, _++_}
 use native.Mathlib.Omega.{arith}
-use lib.ListN.{length, getD, set, length-set}
-use Rattle.geometry.specs.declared.Point.{Point}
-use Rattle.geometry.specs.Geometry.{dist}
-use Rattle.tree.specs.Tree.{Node, terminal, nodeAt, adopt}
-use Rattle.tree.specs.Search.{onto}
-use Rattle.tree.specs.Route.{newNode, attach, joined}
+use lib.ListN.{length}
+use Rattle.tree.specs.Tree.{Node, nodeAt, adopt}
+use Rattle.tree.specs.Route.{attach}
 use Rattle.tree.specs.Shape.{Linked}
 use Rattle.tree.proofs.Nodes.{AtNode, new, joint, old, at-node, length-attach}
 use Rattle.joining.specs.declared.Row.{Row}

@@ -1,15 +1,14 @@
 -- The columns store the tree with one more terminal: after a row is attached, and after a branch is split.
-use Prim.Native.Nat.{ℕ, suc, _+_, _≤_, _<_}
+use Prim.Native.Nat.{ℕ, suc, _+_, _<_}
 use mathlib.Core.Path.{_≡_, ap, sym, subst, _∙_}
 use mathlib.Core.List.{List, [], _∷_}
 use native.Mathlib.Omega.{arith}
 use lib.ListN.{length}
-use Rattle.tree.specs.Limits.{noNode}
 use Rattle.geometry.specs.declared.Point.{Point}
 use Rattle.geometry.specs.Geometry.{dist}
 use Rattle.tree.specs.Tree.{zeroFigure, Node, Tree, at, nodeAt, terminal, steiner}
-use Rattle.tree.specs.Search.{nearestOn, onto, split}
-use Rattle.tree.specs.Route.{newNode, joined, join}
+use Rattle.tree.specs.Search.{nearestOn, split}
+use Rattle.tree.specs.Route.{newNode, join}
 use Rattle.tree.specs.WellFormed.{WellFormed}
 use Rattle.tree.proofs.Nodes.{length-attach, length-split}
 use Rattle.tree.proofs.Linking.{child-in, parent-in, not-own}
@@ -18,8 +17,8 @@ use Rattle.joining.specs.declared.Counts.{Counts}
 use Rattle.joining.specs.declared.Row.{Row}
 use Rattle.joining.specs.Store.{Columns, rowAt, setRow, setParent, nodeFrom, Sized}
 use Rattle.joining.specs.Moves.{Spliced}
-use Rattle.joining.specs.Join.{spotIn, terminalRow, pathBelow, splitRows, oneMore, twoMore, RowAttached, withSplit, BranchSplit}
-use Rattle.joining.specs.Insert.{Stores}
+use Rattle.joining.specs.Join.{spotIn, terminalRow, pathBelow, splitRows, oneMore, twoMore, RowAttached, BranchSplit}
+use Rattle.joining.specs.Standing.{Stores}
 use Rattle.joining.proofs.Steps.{parent-at}
 use Rattle.joining.proofs.Attaching.{keeps-attach, sized-attach}
 use Rattle.joining.proofs.Splitting.{tipNode, knotNode, keeps-split, sized-split}
@@ -30,11 +29,11 @@ module _ (t : Tree) (f : WellFormed t) (k : Counts) (c : Columns) (s : Stores t 
 
   -- ---- a terminal below p, with a path of length l
   module _ (room : k .nodes < m) (p : ℕ) (h : p < length (t .nodes)) (q : Point) (l l′ : ℕ) (el : l ≡ l′) (c′ : Columns)
-      (o : RowAttached c (k .nodes) (terminalRow p q l (k .terminal)) c′) where
+      (o : RowAttached c (k .nodes) (terminalRow p q l (k .terminal .0)) c′) where
     abbrev new : Node
     new = newNode (terminal (t .nextTerminal)) p q [] l′
 
-    new-is : nodeFrom (terminalRow p q l (k .terminal)) [] ≡ new
+    new-is : nodeFrom (terminalRow p q l (k .terminal .0)) [] ≡ new
     new-is =
         λ i. record {
           name = terminal (sym (s .terminal) i);
@@ -46,8 +45,8 @@ module _ (t : Tree) (f : WellFormed t) (k : Counts) (c : Columns) (s : Stores t 
           delay = zeroFigure;
         }
 
-    there : RowAttached c (length ns) (terminalRow p q l (k .terminal)) c′
-    there = subst (λ (n : ℕ). RowAttached c n (terminalRow p q l (k .terminal)) c′) (sym (s .size)) o
+    there : RowAttached c (length ns) (terminalRow p q l (k .terminal .0)) c′
+    there = subst (λ (n : ℕ). RowAttached c n (terminalRow p q l (k .terminal .0)) c′) (sym (s .size)) o
 
     pub stores-terminal : Stores (attached t p new (t .nextSteiner) (suc (t .nextTerminal))) (oneMore k) c′
     stores-terminal =

@@ -6,6 +6,4 @@ pub mod Splitting
 pub mod Rowing
 pub mod Reading
 pub mod Growing
-pub mod Inserting
-pub mod Nearest
-pub mod Turning
+pub mod Placing

@@ -3,7 +3,7 @@ use Prim.Native.Nat.{ℕ, _+_, _≤_, _<_}
 use native.Mathlib.Omega.{arith}
 use mathlib.Core.Path.{_≡_, sym, ap, subst, _∙_}
 use mathlib.Core.List.{List}
-use lib.ListN.{length, getD, set, length-set}
+use lib.ListN.{length, set, length-set}
 use lib.IntN.{ℤ}
 use Rattle.tree.specs.Limits.{longestPath, reach}
 use Rattle.geometry.specs.declared.Point.{Point}
@@ -29,22 +29,22 @@ found xs ys path p P r e = subst Found (sym e) (record { near = r .near; long = 
 pub near-found : (a b q n : Point) → Within reach a → Within reach b → n ≡ nearestOn a b q → Within reach n
 near-found a b q n f g e = subst (Within reach) (sym e) (nearest-within q f g)
 
-pub terminal-row-is : (P Q : Spot) (q : Point) (te d : ℕ) → P ≡ Q → d ≡ dist (P .point) q → terminalRow (Q .node) q (P .path + d) te ≡ terminalRow (Q .node) q (pathBelow Q q) te
-terminal-row-is P Q q te d e f = λ i. terminalRow (Q .node) q (e i .path + (f ∙ ap (λ (x : Spot). dist (x .point) q) e) i) te
+pub terminal-row-is : (P Q : Spot) (q : Point) (te d : ℕ) → P ≡ Q → d ≡ dist (P .point) q → terminalRow (Q .node .0) q (P .path + d) te ≡ terminalRow (Q .node .0) q (pathBelow Q q) te
+terminal-row-is P Q q te d e f = λ i. terminalRow (Q .node .0) q (e i .path + (f ∙ ap (λ (x : Spot). dist (x .point) q) e) i) te
 
 pub split-rows-are : (k : Counts) (P C P′ C′ : Spot) (q n : Point) (d e : ℕ) → P ≡ P′ → C ≡ C′ → n ≡ nearestOn (P .point) (C .point) q → d ≡ dist (P .point) n → e ≡ dist n q
     → record {
-      terminal = terminalRow (k .nodes + 1) q (P .path + d + e) (k .terminal);
-      steiner = record { point = n; path = P .path + d; parent = P′ .node; kind = 1; number = k .steiner };
+      terminal = terminalRow (k .nodes + 1) q (P .path + d + e) (k .terminal .0);
+      steiner = record { point = n; path = P .path + d; parent = P′ .node; kind = 1; number = k .steiner .0 };
     } ≡ splitRows k P′ C′ q
 split-rows-are k P C P′ C′ q n d e eP eC en ed ee =
     (λ i. record {
-      terminal = terminalRow (k .nodes + 1) q (P .path + (ed ∙ ap (dist (P .point)) en) i + (ee ∙ ap (λ (x : Point). dist x q) en) i) (k .terminal);
-      steiner = record { point = en i; path = P .path + (ed ∙ ap (dist (P .point)) en) i; parent = P′ .node; kind = 1; number = k .steiner };
+      terminal = terminalRow (k .nodes + 1) q (P .path + (ed ∙ ap (dist (P .point)) en) i + (ee ∙ ap (λ (x : Point). dist x q) en) i) (k .terminal .0);
+      steiner = record { point = en i; path = P .path + (ed ∙ ap (dist (P .point)) en) i; parent = P′ .node; kind = 1; number = k .steiner .0 };
     })
     ∙ (λ i. record {
       terminal = splitRows k (eP i) (eC i) q .terminal;
-      steiner = record { point = splitRows k (eP i) (eC i) q .steiner .point; path = splitRows k (eP i) (eC i) q .steiner .path; parent = P′ .node; kind = 1; number = k .steiner };
+      steiner = record { point = splitRows k (eP i) (eC i) q .steiner .point; path = splitRows k (eP i) (eC i) q .steiner .path; parent = P′ .node; kind = 1; number = k .steiner .0 };
     })
 
 -- ---- two rows and a parent

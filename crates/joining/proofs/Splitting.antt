@@ -1,30 +1,27 @@
 -- The columns after a terminal joins on a branch.
 use Prim.Native.Nat.{ℕ, zero, suc, _+_, _≤_, _<_}
 use mathlib.Core.Path.{_≡_, refl, ap, sym, subst, _∙_}
-use mathlib.Core.Logic.{_≢_, _⊎_, inl, inr, ⊎-elim}
+use mathlib.Core.Logic.{_≢_, _⊎_, ⊎-elim}
 use mathlib.Core.List.{List, [], _∷_, _++_, reverse}
 use native.Mathlib.Omega.{arith}
-use lib.ListN.{length, getD, set, length-set}
-use lib.Dec.{eqb}
+use lib.ListN.{length}
 use Rattle.geometry.specs.declared.Point.{Point}
 use Rattle.geometry.specs.Geometry.{dist}
-use Rattle.tree.specs.Tree.{one}
-use Rattle.tree.specs.Tree.{zeroFigure, Node, terminal, steiner, Parent, at, nodeAt, without, replaceLast, withParent}
+use Rattle.tree.specs.Tree.{zeroFigure, Node, terminal, steiner, at, nodeAt, without, replaceLast, withParent}
 use Rattle.tree.specs.Search.{split, branch}
 use Rattle.tree.specs.Route.{newNode, joined}
 use Rattle.tree.specs.Shape.{Linked, count}
 use Rattle.tree.proofs.Linking.{one-ne, count-snoc, count-without, count-gone, child-in, parent-in, not-own}
 use Rattle.tree.proofs.Measuring.{at-inj}
 use Rattle.tree.proofs.Nodes.{AtSplit, tip, knot, start, end, rest, at-split, length-split}
-use Rattle.search.specs.Columns.{Has, Chain}
+use Rattle.search.specs.Columns.{Has}
 use Rattle.search.specs.Once.{pigeon}
 use Rattle.search.specs.Lists.{attach-own, attach-other, detach-own, detach-other}
-use Rattle.search.specs.Moves as S
 use Rattle.search.specs.Tree.{examined}
 use Rattle.joining.specs.declared.Row.{Row}
-use Rattle.joining.specs.Store.{Rows, Columns, columns, rowAt, setRow, setParent, SizedRows, Sized, Keeps, nodeFrom, parentFrom}
+use Rattle.joining.specs.Store.{Rows, Columns, columns, rowAt, setRow, setParent, SizedRows, Sized, Keeps, nodeFrom}
 use Rattle.joining.specs.Moves.{Adopted, Spliced}
-use Rattle.joining.proofs.Agree.{has-count, count-has, count-reverse, child-of, has-child, once, no-child}
+use Rattle.joining.proofs.Agree.{count-has, count-reverse, child-of, has-child, once, no-child}
 use Rattle.joining.proofs.Steps.{row-same, row-other, parent-same, parent-other, childOf, parent-at, sized-row, sized-parent, node-lift, chain-lift, K, absent, without-is, attached-last, attached-prev, appended-own, appended-other, appended-self, appended-last, appended-prev, detached-last, detached-prev}
 
 -- the two new nodes

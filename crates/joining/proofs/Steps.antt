@@ -1,5 +1,5 @@
 -- Stores in rows and links, by index.
-use Prim.Native.Nat.{ℕ, zero, suc, _+_, _≤_, _<_}
+use Prim.Native.Nat.{ℕ, _+_, _<_}
 use mathlib.Core.Path.{_≡_, refl, ap, sym, subst, _∙_}
 use mathlib.Core.Logic.{_≢_}
 use mathlib.Core.Bool.{Bool, true, false, cond}
@@ -8,15 +8,15 @@ use native.Mathlib.Omega.{arith}
 use lib.ListN.{length, getD, set, length-set}
 use lib.Seq.{getD-set-same, getD-set-other}
 use lib.Dec.{eqb}
-use lib.IntN.{ℤ, pos}
+use lib.IntN.{pos}
 use borrow.Author.Tests.{ne-eqb}
 use Rattle.tree.specs.Limits.{noNode}
-use Rattle.tree.specs.Tree.{Node, Parent, none, at, nodeAt, without}
+use Rattle.tree.specs.Tree.{Node, at, nodeAt, without}
 use Rattle.tree.specs.Shape.{count}
+use Rattle.search.specs.Search.{nodeIndex}
 use Rattle.search.specs.Columns.{Has, Chain, chain}
 use Rattle.search.specs.Moves as M
 use Rattle.search.specs.Moves.{Attached, Detached, beforeOf}
-use Rattle.search.specs.Lists as L
 use Rattle.search.specs.Lists.{attach-own, attach-other}
 use Rattle.joining.specs.declared.Row.{Row}
 use Rattle.joining.specs.Store.{Rows, rowAt, setRow, setParent, SizedRows, nodeFrom, parentFrom}
@@ -29,7 +29,7 @@ row-same m r i n z h =
     λ k. record {
       point = record { xcoord = getD-set-same (r .xs) i (n .point .xcoord) (pos 0) (omega (arith, z .xs)) k; ycoord = getD-set-same (r .ys) i (n .point .ycoord) (pos 0) (omega (arith, z .ys)) k };
       path = getD-set-same (r .path) i (n .path) 0 (omega (arith, z .path)) k;
-      parent = getD-set-same (r .parent) i (n .parent) 0 (omega (arith, z .parent)) k;
+      parent = nodeIndex (getD-set-same (r .parent) i (n .parent .0) 0 (omega (arith, z .parent)) k);
       kind = getD-set-same (r .kind) i (n .kind) 0 (omega (arith, z .kind)) k;
       number = getD-set-same (r .number) i (n .number) 0 (omega (arith, z .number)) k;
     }
@@ -39,13 +39,13 @@ row-other r i j n h =
     λ k. record {
       point = record { xcoord = getD-set-other (r .xs) i j (n .point .xcoord) (pos 0) h k; ycoord = getD-set-other (r .ys) i j (n .point .ycoord) (pos 0) h k };
       path = getD-set-other (r .path) i j (n .path) 0 h k;
-      parent = getD-set-other (r .parent) i j (n .parent) 0 h k;
+      parent = nodeIndex (getD-set-other (r .parent) i j (n .parent .0) 0 h k);
       kind = getD-set-other (r .kind) i j (n .kind) 0 h k;
       number = getD-set-other (r .number) i j (n .number) 0 h k;
     }
 
 abbrev pub childOf : ℕ → Row → Row
-childOf p n = record { point = n .point; path = n .path; parent = p; kind = n .kind; number = n .number }
+childOf p n = record { point = n .point; path = n .path; parent = nodeIndex p; kind = n .kind; number = n .number }
 
 pub parent-same : (m : ℕ) (r : Rows) (i p : ℕ) → SizedRows m r → i < m → rowAt (setParent r i p) i ≡ childOf p (rowAt r i)
 parent-same m r i p z h = ap (λ (x : ℕ). childOf x (rowAt r i)) (getD-set-same (r .parent) i p 0 (omega (arith, z .parent)))

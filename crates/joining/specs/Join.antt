@@ -10,7 +10,7 @@ use Rattle.geometry.specs.Geometry.{dist}
 use Rattle.geometry.specs.Laws.{Within}
 use Rattle.tree.specs.Search.{nearestOn}
 use Rattle.search.specs.declared.Spot.{Spot}
-use Rattle.search.specs.Search.{spotAt}
+use Rattle.search.specs.Search.{nodeIndex, spotAt}
 use Rattle.search.specs.Columns.{InReach}
 use Rattle.joining.specs.declared.Row.{Row}
 use Rattle.joining.specs.declared.SplitRows.{SplitRows}
@@ -20,7 +20,7 @@ use Rattle.joining.specs.Moves.{Appended, Spliced, Spliceable}
 
 -- the row of a terminal at q below p
 abbrev pub terminalRow : ℕ → Point → ℕ → ℕ → Row
-terminalRow p q path number = record { point = q; path = path; parent = p; kind = 2; number = number }
+terminalRow p q path number = record { point = q; path = path; parent = nodeIndex p; kind = 2; number = number }
 
 -- "New path lengths are the parent's plus d"
 abbrev pub pathBelow : Spot → Point → ℕ
@@ -30,16 +30,16 @@ pathBelow P q = P .path + dist (P .point) q
 abbrev pub splitRows : Counts → Spot → Spot → Point → SplitRows
 splitRows k P C q =
     record {
-      terminal = terminalRow (k .nodes + 1) q (pathBelow P (nearestOn (P .point) (C .point) q) + dist (nearestOn (P .point) (C .point) q) q) (k .terminal);
-      steiner = record { point = nearestOn (P .point) (C .point) q; path = pathBelow P (nearestOn (P .point) (C .point) q); parent = P .node; kind = 1; number = k .steiner };
+      terminal = terminalRow (k .nodes + 1) q (pathBelow P (nearestOn (P .point) (C .point) q) + dist (nearestOn (P .point) (C .point) q) q) (k .terminal .0);
+      steiner = record { point = nearestOn (P .point) (C .point) q; path = pathBelow P (nearestOn (P .point) (C .point) q); parent = P .node; kind = 1; number = k .steiner .0 };
     }
 
 -- the counts with one more terminal, and with a terminal and a Steiner node
 abbrev pub oneMore : Counts → Counts
-oneMore k = record { nodes = k .nodes + 1; steiner = k .steiner; terminal = k .terminal + 1 }
+oneMore k = record { nodes = k .nodes + 1; steiner = k .steiner; terminal = record { 0 = k .terminal .0 + 1 } }
 
 abbrev pub twoMore : Counts → Counts
-twoMore k = record { nodes = k .nodes + 2; steiner = k .steiner + 1; terminal = k .terminal + 1 }
+twoMore k = record { nodes = k .nodes + 2; steiner = record { 0 = k .steiner .0 + 1 }; terminal = record { 0 = k .terminal .0 + 1 } }
 
 -- a node that is read, and is near
 pub record Reads (xs ys : List ℤ) (path : List ℕ) (p : ℕ) : Type 0 where
@@ -62,7 +62,7 @@ pub record Attachable (c : Columns) (n p : ℕ) : Type 0 where
 -- the node n has a row, no children, and stands last among its parent's
 pub record RowAttached (c : Columns) (n : ℕ) (row : Row) (c′ : Columns) : Type 0 where
   pub rows : c′ .rows ≡ setRow (c .rows) n row
-  pub links : Appended (c .last) (c .prev) (row .parent) n (c′ .last) (c′ .prev)
+  pub links : Appended (c .last) (c .prev) (row .parent .0) n (c′ .last) (c′ .prev)
 
 -- ---- a branch is split
 -- the rows with both new ones, and the child below the Steiner node

@@ -1,14 +1,14 @@
 -- A tree kept in columns: rows of numbers, and two columns of links. noNode stands for no node.
 use Prim.Native.Nat.{ℕ, zero, suc, _+_, _≤_, _<_}
 use mathlib.Core.Path.{_≡_}
-use mathlib.Core.Bool.{Bool, cond}
+use mathlib.Core.Bool.{cond}
 use mathlib.Core.List.{List, [], _∷_, _++_, reverse}
 use lib.ListN.{length, getD, set}
 use lib.Dec.{eqb}
 use lib.IntN.{ℤ, pos}
 use Rattle.tree.specs.Limits.{noNode}
-use Rattle.geometry.specs.declared.Point.{Point}
-use Rattle.tree.specs.Tree.{zeroFigure, Node, Tree, Name, source, steiner, terminal, Parent, none, at, nodeAt}
+use Rattle.tree.specs.Tree.{zeroFigure, Node, Name, source, steiner, terminal, Parent, none, at, nodeAt}
+use Rattle.search.specs.Search.{nodeIndex}
 use Rattle.search.specs.Columns.{chain, Chain}
 use Rattle.joining.specs.declared.Row.{Row}
 
@@ -36,7 +36,7 @@ rowAt r i =
     record {
       point = record { xcoord = getD (r .xs) i (pos 0); ycoord = getD (r .ys) i (pos 0) };
       path = getD (r .path) i 0;
-      parent = getD (r .parent) i 0;
+      parent = nodeIndex (getD (r .parent) i 0);
       kind = getD (r .kind) i 0;
       number = getD (r .number) i 0;
     }
@@ -47,7 +47,7 @@ setRow r i n =
       xs = set (r .xs) i (n .point .xcoord);
       ys = set (r .ys) i (n .point .ycoord);
       path = set (r .path) i (n .path);
-      parent = set (r .parent) i (n .parent);
+      parent = set (r .parent) i (n .parent .0);
       kind = set (r .kind) i (n .kind);
       number = set (r .number) i (n .number);
     }
@@ -67,7 +67,7 @@ parentFrom p = cond (eqb p noNode) none (at p)
 
 abbrev pub nodeFrom : Row → List ℕ → Node
 nodeFrom r cs =
-    record { name = nameFrom (r .kind) (r .number); parent = parentFrom (r .parent); point = r .point; children = cs; path = r .path; capacitance = zeroFigure; delay = zeroFigure }
+    record { name = nameFrom (r .kind) (r .number); parent = parentFrom (r .parent .0); point = r .point; children = cs; path = r .path; capacitance = zeroFigure; delay = zeroFigure }
 
 abbrev pub nodeOf : Columns → ℕ → Node
 nodeOf c i = nodeFrom (rowAt (c .rows) i) (reverse (chain (c .prev) (getD (c .last) i 0)))

@@ -20,8 +20,8 @@ use Rattle.sorting.specs.Points.{pt, seg, Even, Sorted}
 use Rattle.sorting.proofs.Moves.{seg-append}
 use Rattle.joining.specs.declared.Counts.{Counts}
 use Rattle.joining.specs.Store.{Columns, Sized, Keeps, upTo}
-use Rattle.joining.specs.Insert.{stepOf}
-use Rattle.joining.specs.Route.{treeOf, Routable, Routed}
+use Rattle.inserting.specs.Insert.{stepOf}
+use Rattle.inserting.specs.Route.{treeOf, Routable, Routed}
 use Rattle.route.specs.declared.Table.{Table}
 use Rattle.route.specs.declared.Choice.{Choice}
 use Rattle.route.specs.Routing.{wayOf}
@@ -95,8 +95,8 @@ module _ (ks px py : List ℤ) (s : Point) (mode : Mode) (v : Plannable px py s)
           allowed = is-allowed i;
           farthest = is-farthest i;
           limit = is-limit i;
-          nextSteiner = t .counts .steiner;
-          nextTerminal = t .counts .terminal;
+          nextSteiner = t .counts .steiner .0;
+          nextTerminal = t .counts .terminal .0;
         })
         ∙ of .tree w
 

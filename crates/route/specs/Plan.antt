@@ -15,7 +15,7 @@ use Rattle.job.specs.declared.Mode.{Mode}
 use Rattle.job.specs.declared.Mode.the-variants.{Simple, Steiners, Constraints}
 use Rattle.search.specs.Search.{rectsOf}
 use Rattle.sorting.specs.Points.{pt, seg, Even}
-use Rattle.joining.specs.declared.Way.the-variants as W
+use Rattle.inserting.specs.declared.Way.the-variants as W
 use Rattle.joining.specs.Store.{Columns, rowsOf, columns, nodesOf, Sized, Keeps}
 use Rattle.route.specs.declared.Table.{Table}
 use Rattle.route.specs.declared.Choice.{Choice}
@@ -41,8 +41,8 @@ tableTree t =
       allowed = t .allowed;
       farthest = t .farthest;
       limit = t .limit;
-      nextSteiner = t .counts .steiner;
-      nextTerminal = t .counts .terminal;
+      nextSteiner = t .counts .steiner .0;
+      nextTerminal = t .counts .terminal .0;
     }
 
 pub record Plannable (px py : List ℤ) (s : Point) : Type 0 where
@@ -57,6 +57,6 @@ pub record Planned (ks px py : List ℤ) (s : Point) (mode : Mode) (t : Table) :
   pub counted : Counted (tableTree t)
   pub keeps : Keeps (tableTree t .nodes) (tableColumns t)
   pub sized : Sized mostNodes (tableColumns t)
-  pub next : t .counts .terminal ≡ length px + 1
+  pub next : t .counts .terminal .0 ≡ length px + 1
   pub limit-small : t .limit ≤ noLimit
   pub farthest-small : t .farthest ≤ across

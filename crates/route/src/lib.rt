@@ -1,8 +1,8 @@
 // A source and terminals become a tree in columns: sorting, W, the allowance, and the three ways to route.
 use geometry::Point;
+use inserting::Way;
 use job::Mode;
 use joining::Counts;
-use joining::Way;
 use search::Ask;
 ghost use mathlib.Core.Path.{_≡_};
 ghost use Prim.Native.Nat.{max};
@@ -104,7 +104,7 @@ pub fn plan(px: &mut [i32], py: &mut [i32], ks: &[i32], s: Point, mode: Mode) ->
     let mut number = [0u16; tree::MOST_NODES];
     let mut last = [0u16; tree::MOST_NODES];
     let mut prev = [0u16; tree::MOST_NODES];
-    let k = joining::route_sorted(
+    let k = inserting::route_sorted(
         &mut xs,
         &mut ys,
         &mut path,

@@ -20,13 +20,13 @@ use Rattle.search.specs.declared.Ask.{Ask}
 use Rattle.search.specs.declared.Spot.{Spot}
 use Rattle.search.specs.declared.Step.{Step}
 use Rattle.search.specs.Search as S
-use Rattle.search.specs.Search.{Examined, shutBy, shut, isShut, offer, examineOne, withStep, childrenOf, takeIt, start}
+use Rattle.search.specs.Search.{nodeIndex, Examined, shutBy, shut, isShut, offer, examineOne, withStep, childrenOf, takeIt, start}
 use Rattle.search.specs.Tree.{spotOf, examined, findIn}
 
 -- the code's answer as the paper's
 abbrev pub joinOf : Join → T.Join
-joinOf (Onto p) = T.onto p
-joinOf (Split p c) = T.split p c
+joinOf (Onto p) = T.onto (p .0)
+joinOf (Split p c) = T.split (p .0) (c .0)
 
 abbrev bestOf : Best → T.Best
 bestOf b = record { join = joinOf (b .join); best = b .best; within = b .valid }
@@ -73,7 +73,7 @@ module _ (ks : List Rectangle) (ns : List Node) (a : Ask) where
     join-is : T.joinAt p P c C n ≡ joinOf (S.joinAt n (spotOf ns p) (spotOf ns c))
     join-is = by (same n (P .point)) (same n (C .point))
       where
-        by : (t u : Bool) → cond t (T.onto p) (cond u (T.onto c) (T.split p c)) ≡ joinOf (cond t (Onto p) (cond u (Onto c) (Split p c)))
+        by : (t u : Bool) → cond t (T.onto p) (cond u (T.onto c) (T.split p c)) ≡ joinOf (cond t (Onto (nodeIndex p)) (cond u (Onto (nodeIndex c)) (Split (nodeIndex p) (nodeIndex c))))
         by true u = refl
         by false true = refl
         by false false = refl

@@ -14,6 +14,7 @@ use Rattle.geometry.specs.Laws.{Within}
 use Rattle.geometry.specs.declared.Point.{Point}
 use Rattle.geometry.specs.declared.Rectangle.{Rectangle}
 use Rattle.geometry.specs.declared.Interval.{Interval}
+use Rattle.tree.specs.declared.NodeIndex.{NodeIndex}
 use Rattle.search.specs.declared.Join.{Join}
 use Rattle.search.specs.declared.Join.the-variants.{Onto, Split}
 use Rattle.search.specs.declared.Best.{Best}
@@ -84,8 +85,11 @@ pub record Near (a : Ask) (P C : Spot) : Type 0 where
   pub c : Within reach (C .point)
   pub path : P .path ≤ longestPath
 
+abbrev pub nodeIndex : ℕ → NodeIndex
+nodeIndex i = record { 0 = i }
+
 abbrev pub spotAt : List ℤ → List ℤ → List ℕ → ℕ → Spot
-spotAt xs ys path i = record { node = i; point = pointAt xs ys i; path = getD path i 0 }
+spotAt xs ys path i = record { node = nodeIndex i; point = pointAt xs ys i; path = getD path i 0 }
 
 -- ---- the walk
 pub record Examined : Type 0 where
@@ -93,7 +97,7 @@ pub record Examined : Type 0 where
   pub pushed : List ℕ
 
 abbrev pub start : Ask → Best
-start a = record { join = Onto 0; best = max (a .limit) 1; valid = false }
+start a = record { join = Onto (nodeIndex 0); best = max (a .limit) 1; valid = false }
 
 module _ (ks : List Rectangle) (a : Ask) (spot : ℕ → Spot) where
   -- a step's outcome on the stack

@@ -7,10 +7,10 @@ use Rattle.tree.specs.Tree.{Node, nodeAt}
 use Rattle.search.specs.declared.Join.{Join}
 use Rattle.search.specs.declared.Ask.{Ask}
 use Rattle.search.specs.declared.Spot.{Spot}
-use Rattle.search.specs.Search.{walk, start}
+use Rattle.search.specs.Search.{nodeIndex, walk, start}
 
 abbrev pub spotOf : List Node → ℕ → Spot
-spotOf ns i = record { node = i; point = nodeAt ns i .point; path = nodeAt ns i .path }
+spotOf ns i = record { node = nodeIndex i; point = nodeAt ns i .point; path = nodeAt ns i .path }
 
 -- last to first
 abbrev pub examined : List Node → ℕ → List ℕ

@@ -14,7 +14,7 @@ use Rattle.search.specs.declared.Join.{Join}
 use Rattle.search.specs.declared.Best.{Best}
 use Rattle.search.specs.declared.Ask.{Ask}
 use Rattle.search.specs.declared.Spot.{Spot}
-use Rattle.search.specs.Search.{Examined, childrenOf, withStep, examineOne, walk, start, pointAt, spotAt, rectsOf}
+use Rattle.search.specs.Search.{nodeIndex, Examined, childrenOf, withStep, examineOne, walk, start, pointAt, spotAt, rectsOf}
 use Rattle.search.specs.Columns.{Has, chain, Chain, Linked, kidsOf, Sound, SafeOn, foundOn}
 use Rattle.search.specs.Links.{chain-is}
 use Rattle.search.specs.Moves.{Distinct}
@@ -109,7 +109,7 @@ module _ (ns : List Node) (xs ys : List ℤ) (path last prev : List ℕ) (k : Ke
   found-is a ks =
       ap (λ (b : Best). b .join)
       (walk-same (rectsOf ks) a (spotAt xs ys path) (spotOf ns) (length ns)
-      (λ i h j. record { node = i; point = k .points i h j; path = k .paths i h j })
+      (λ i h j. record { node = nodeIndex i; point = k .points i h j; path = k .paths i h j })
       (kidsOf last prev) (examined ns) kids-are (λ p c h z. forest .below p c h z) (length ns) (0 ∷ []) (start a)
       (λ x h. ⊎-elim (λ (z : 0 ≡ x). subst (λ (m : ℕ). m < length ns) z (t .forest .some)) (λ (z : ⊥). absurd z) h))
 

@@ -2,6 +2,7 @@
 use geometry::Interval;
 use geometry::Point;
 use geometry::Rectangle;
+use tree::NodeIndex;
 ghost use mathlib.Core.Path.{_≡_};
 ghost use mathlib.Core.Bool.{Bool, _&&_};
 ghost use Prim.Native.Nat.{ℕ, _+_, _*_, _<_, _≤_, max};
@@ -19,8 +20,8 @@ ghost use Rattle.search.specs.Columns.{Has, Fair, InReach, Linked, chain
 
 // Where a point joins: at a node, or on the branch from a node to its child.
 pub enum Join {
-    Onto(u16),
-    Split(u16, u16),
+    Onto(NodeIndex),
+    Split(NodeIndex, NodeIndex),
 }
 
 pub struct Best {
@@ -37,7 +38,7 @@ pub struct Ask {
 
 // A node with what the search reads of it.
 pub struct Spot {
-    pub node: u16,
+    pub node: NodeIndex,
     pub point: Point,
     pub path: u32,
 }
@@ -106,14 +107,16 @@ fn join_at(n: Point, at: Spot, to: Spot) -> Join
     ensures { λ r. ⌜ r ≡ joinAt n at to ⌝ }
 {
     let p = at.point;
+    let i = at.node;
     if n.same(p) {
-        return Join::Onto(at.node);
+        return Join::Onto(i);
     }
     let c = to.point;
+    let j = to.node;
     if n.same(c) {
-        return Join::Onto(to.node);
+        return Join::Onto(j);
     }
-    Join::Split(at.node, to.node)
+    Join::Split(i, j)
 }
 
 fn either(a: bool, b: bool) -> bool
@@ -241,11 +244,11 @@ pub fn point_at<'a>(xs: &'a [i32], ys: &'a [i32], i: usize) -> Point
     }
 }
 
-pub fn spot_at<'a>(xs: &'a [i32], ys: &'a [i32], path: &'a [u32], c: u16) -> Spot
-    requires { ⌜ InReach (now xs) (now ys) (now path) c ⌝ }
-    ensures { λ r. ⌜ r ≡ spotAt (now (xs .entry)) (now (ys .entry)) (now (path .entry)) c ⌝ }
+pub fn spot_at<'a>(xs: &'a [i32], ys: &'a [i32], path: &'a [u32], c: NodeIndex) -> Spot
+    requires { ⌜ InReach (now xs) (now ys) (now path) (c .0) ⌝ }
+    ensures { λ r. ⌜ r ≡ spotAt (now (xs .entry)) (now (ys .entry)) (now (path .entry)) (c .0) ⌝ }
 {
-    let i = wide(c);
+    let i = wide(c.0);
     let p = point_at(xs, ys, i);
     Spot {
         node: c,
@@ -277,7 +280,7 @@ fn children<'a>(
     let mut top = from;
     let mut c = first;
     while c != tree::NO_NODE {
-        let to = spot_at(xs, ys, path, c);
+        let to = spot_at(xs, ys, path, NodeIndex(c));
         let step = examine(ks, ask, at, to, found);
         let f = step.found;
         found = f;
@@ -318,8 +321,9 @@ fn search<'a>(
     ensures { λ r. ⌜ r ≡ foundOn n ask (now (xs .entry)) (now (ys .entry)) (now (path .entry)) (now (last .entry)) (now (prev .entry)) (now (ks .entry)) ⌝ }
 {
     let m = least_one(ask.limit);
+    let source = NodeIndex(0);
     let mut found = Best {
-        join: Join::Onto(0),
+        join: Join::Onto(source),
         best: m,
         valid: false,
     };
@@ -329,7 +333,7 @@ fn search<'a>(
     while 0 < top {
         top = top - 1;
         let p = stack[top];
-        let at = spot_at(xs, ys, path, p);
+        let at = spot_at(xs, ys, path, NodeIndex(p));
         let i = wide(p);
         let first = last[i];
         let r = children(stack, top, found, ask, at, first, xs, ys, path, prev, ks);
@@ -364,53 +368,53 @@ fn find<'a>(
 // ---- moving children
 
 // c goes last among p's children.
-pub fn attach_last(last: &mut [u16], prev: &mut [u16], p: u16, c: u16)
-    requires { ⌜ (p < length (now last)) × (c < length (now prev)) ⌝ }
-    ensures { λ r. ⌜ Attached (now (last .entry)) (now (prev .entry)) p c (now (last .exit)) (now (prev .exit)) ⌝ }
+pub fn attach_last(last: &mut [u16], prev: &mut [u16], p: NodeIndex, c: NodeIndex)
+    requires { ⌜ (p .0 < length (now last)) × (c .0 < length (now prev)) ⌝ }
+    ensures { λ r. ⌜ Attached (now (last .entry)) (now (prev .entry)) (p .0) (c .0) (now (last .exit)) (now (prev .exit)) ⌝ }
 {
-    let i = wide(p);
-    let j = wide(c);
+    let i = wide(p.0);
+    let j = wide(c.0);
     prev[j] = last[i];
-    last[i] = c;
+    last[i] = c.0;
 }
 
 // The child that stands before c in a chain of links.
-fn before(prev: &[u16], first: u16, c: u16) -> u16
+fn before(prev: &[u16], first: u16, c: NodeIndex) -> NodeIndex
     requires { ⌜ length (now prev) ≤ noNode ⌝ }
     requires { ⌜ Linked (now prev) first ⌝ }
-    requires { ⌜ Has c (chain (now prev) first) ⌝ }
-    requires { ⌜ (first ≡ c → ⊥) ⌝ }
-    ensures { λ r. ⌜ (r ≡ beforeOf (chain (now (prev .entry)) first) c) × (r < length (now (prev .entry))) ⌝ }
+    requires { ⌜ Has (c .0) (chain (now prev) first) ⌝ }
+    requires { ⌜ (first ≡ c .0 → ⊥) ⌝ }
+    ensures { λ r. ⌜ (r .0 ≡ beforeOf (chain (now (prev .entry)) first) (c .0)) × (r .0 < length (now (prev .entry))) ⌝ }
 {
     let k = wide(first);
     let mut d = first;
     let mut e = prev[k];
-    while e != c {
+    while e != c.0 {
         let i = wide(e);
         d = e;
         e = prev[i];
     }
-    d
+    NodeIndex(d)
 }
 
 // c leaves p's children.
-pub fn detach(last: &mut [u16], prev: &mut [u16], p: u16, c: u16)
+pub fn detach(last: &mut [u16], prev: &mut [u16], p: NodeIndex, c: NodeIndex)
     requires { ⌜ length (now prev) ≤ noNode ⌝ }
-    requires { ⌜ (p < length (now last)) × (c < length (now prev)) ⌝ }
-    requires { ⌜ Linked (now prev) (getD (now last) p 0) ⌝ }
-    requires { ⌜ Has c (chain (now prev) (getD (now last) p 0)) ⌝ }
-    ensures { λ r. ⌜ Detached (now (last .entry)) (now (prev .entry)) p c (now (last .exit)) (now (prev .exit)) ⌝ }
+    requires { ⌜ (p .0 < length (now last)) × (c .0 < length (now prev)) ⌝ }
+    requires { ⌜ Linked (now prev) (getD (now last) (p .0) 0) ⌝ }
+    requires { ⌜ Has (c .0) (chain (now prev) (getD (now last) (p .0) 0)) ⌝ }
+    ensures { λ r. ⌜ Detached (now (last .entry)) (now (prev .entry)) (p .0) (c .0) (now (last .exit)) (now (prev .exit)) ⌝ }
 {
-    let i = wide(p);
-    let j = wide(c);
+    let i = wide(p.0);
+    let j = wide(c.0);
     let first = last[i];
     let next = prev[j];
-    if first == c {
+    if first == c.0 {
         last[i] = next;
         return;
     }
     let d = before(prev, first, c);
-    let k = wide(d);
+    let k = wide(d.0);
     prev[k] = next;
 }
 

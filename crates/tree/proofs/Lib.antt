@@ -7,10 +7,7 @@ pub mod Naming
 pub mod Searching
 pub mod Routing
 pub mod Fuel
-pub mod Cost
 pub mod Every
 pub mod Spread
-pub mod Loops
 pub mod Fitting
 pub mod Forming
-pub mod Splicing

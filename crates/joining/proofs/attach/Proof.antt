@@ -4,11 +4,11 @@ use Rattle.joining.proofs.attach.Statement.{statement}
 use Rattle.joining.proofs.attach.Tie as tie
 
 store-row-requires : tie.Need-store-row-requires
-store-row-requires c κs = let v = c .before .before .before .before .before .before .before .before .before .before .before .before .pre in (v .sized .rows, v .room)
+store-row-requires c κs = let v = c .before .before .before .before .before .before .before .before .before .before .before .before .before .pre in (v .sized .rows, v .room)
 
 append-child-requires : tie.Need-append-child-requires
 append-child-requires c κs =
-    let v = c .before .before .before .before .before .before .before .before .before .before .before .before .before .before .before .before .before .before .before .before .before .before .before .before .before .pre in
+    let v = c .before .before .before .before .before .before .before .before .before .before .before .before .before .before .before .before .before .before .before .before .before .before .before .before .before .before .pre in
     ((omega (arith, v .at, v .sized .last), omega (arith, v .room, v .sized .last)), omega (arith, v .room, v .sized .prev))
 
 -- the places after the calls

@@ -1,6 +1,5 @@
 -- `joining::join`: at a node one row is attached, on a branch two nodes are added; both as the tree's own joining has it.
-use native.Mathlib.Omega.{arith}
-use Rattle.joining.proofs.Inserting.{next-onto, reads-onto, may-onto, did-onto, may-split, next-split, did-split}
+use Rattle.joining.proofs.Placing.{next-onto, reads-onto, may-onto, did-onto, may-split, next-split, did-split}
 use borrow.Author.Needs.{needs}
 use Rattle.joining.proofs.join.Statement.{statement}
 use Rattle.joining.proofs.join.Tie as tie
@@ -10,13 +9,13 @@ enum-known-j c = search needs
 
 -- ---- at a node
 terminal-row-requires : tie.Need-terminal-row-requires
-terminal-row-requires c κs = (reads-onto (c .before .before .before .before .before .before .before .before .before .before .before .before .pre) _ (c .before .before .before .before .j .given .1), c .before .before .before .before .before .before .before .before .before .before .before .before .pre .within)
+terminal-row-requires c κs = (reads-onto (c .before .before .before .before .before .before .before .before .before .before .before .before .before .pre) _ (c .before .before .before .before .j .given .1), c .before .before .before .before .before .before .before .before .before .before .before .before .before .pre .within)
 
 attach-requires : tie.Need-attach-requires
-attach-requires c κs = may-onto (c .before .before .before .before .before .before .before .before .before .before .before .before .before .before .before .before .before .before .before .before .before .pre) _ (c .before .before .before .before .before .before .before .before .before .before .before .before .before .j .given .1) _ (c .before .before .before .before .before .before .before .before .terminal-row .ensures)
+attach-requires c κs = may-onto (c .before .before .before .before .before .before .before .before .before .before .before .before .before .before .before .before .before .before .before .before .before .before .pre) _ (c .before .before .before .before .before .before .before .before .before .before .before .before .before .j .given .1) _ (c .before .before .before .before .before .before .before .before .terminal-row .ensures)
 
 one-more-requires : tie.Need-one-more-requires
-one-more-requires c κs = next-onto (c .before .before .before .before .before .before .before .before .before .before .before .before .before .before .before .before .before .before .before .before .before .before .before .before .before .before .before .before .before .before .before .before .before .before .before .before .pre) _ (c .before .before .before .before .before .before .before .before .before .before .before .before .before .before .before .before .before .before .before .before .before .before .before .before .before .before .before .before .j .given .1)
+one-more-requires c κs = next-onto (c .before .before .before .before .before .before .before .before .before .before .before .before .before .before .before .before .before .before .before .before .before .before .before .before .before .before .before .before .before .before .before .before .before .before .before .before .before .pre) _ (c .before .before .before .before .before .before .before .before .before .before .before .before .before .before .before .before .before .before .before .before .before .before .before .before .before .before .before .before .j .given .1)
 
 -- the place after the call of `attach`
 abbrev attached : tie.After-one-more → tie.After-attach
@@ -27,20 +26,14 @@ enum-known-j-2 : tie.Need-enum-known-j-2
 enum-known-j-2 c = search needs
 
 split-branch-requires : tie.Need-split-branch-requires
-split-branch-requires c κs = may-split (c .before .before .before .before .before .before .before .before .before .before .before .before .before .before .before .before .before .pre) _ _ (c .before .before .before .before .before .before .before .before .before .j2 .given .1)
+split-branch-requires c κs = may-split (c .before .before .before .before .before .before .before .before .before .before .before .before .before .before .before .before .before .before .pre) _ _ (c .before .before .before .before .before .before .before .before .before .j2 .given .1)
 
-add-t57 : tie.Need-add-t57
-add-t57 c = omega (arith, next-split (c .before .before .before .before .before .before .before .before .before .before .before .before .before .before .before .before .before .before .before .before .before .before .before .before .before .before .before .before .before .before .before .before .before .pre) _ _ (c .before .before .before .before .before .before .before .before .before .before .before .before .before .before .before .before .before .before .before .before .before .before .before .before .before .j2 .given .1) .0)
-
-add-t58 : tie.Need-add-t58
-add-t58 c = omega (arith, next-split (c .before .before .before .before .before .before .before .before .before .before .before .before .before .before .before .before .before .before .before .before .before .before .before .before .before .before .before .before .before .before .before .before .before .before .pre) _ _ (c .before .before .before .before .before .before .before .before .before .before .before .before .before .before .before .before .before .before .before .before .before .before .before .before .before .before .j2 .given .1) .1 .0)
-
-add-t59 : tie.Need-add-t59
-add-t59 c = omega (arith, next-split (c .before .before .before .before .before .before .before .before .before .before .before .before .before .before .before .before .before .before .before .before .before .before .before .before .before .before .before .before .before .before .before .before .before .before .before .pre) _ _ (c .before .before .before .before .before .before .before .before .before .before .before .before .before .before .before .before .before .before .before .before .before .before .before .before .before .before .before .j2 .given .1) .1 .1)
+two-more-requires : tie.Need-two-more-requires
+two-more-requires c κs = next-split (c .before .before .before .before .before .before .before .before .before .before .before .before .before .before .before .before .before .before .before .before .before .before .before .before .before .before .before .before .before .before .before .before .before .pre) _ _ (c .before .before .before .before .before .before .before .before .before .before .before .before .before .before .before .before .before .before .before .before .before .before .before .before .j2 .given .1)
 
 -- the place after the call of `split_branch`
-abbrev split : tie.After-struct-known3 → tie.After-split-branch
-split c = c .before .before .before .before .before .before .before .before .before .before .before .before .before .before .before .before .before
+abbrev split : tie.After-two-more → tie.After-split-branch
+split c = c .before .before .before .before .before .before .before .before .before .before .before .before .before .before .before
 
 -- ---- what is left at the end
 same-length : tie.Need-same-length
@@ -68,7 +61,7 @@ same-length-8 : tie.Need-same-length-8
 same-length-8 c = attached c .attach .kept .1 .1 .1 .1 .1 .1 .1 .0
 
 returns : tie.Need-returns
-returns c = did-onto (c .before .before .before .before .before .before .before .before .before .before .before .before .before .before .before .before .before .before .before .before .before .before .before .before .before .before .before .before .before .before .before .before .before .before .before .before .before .pre) _ (c .before .before .before .before .before .before .before .before .before .before .before .before .before .before .before .before .before .before .before .before .before .before .before .before .before .before .before .before .before .j .given .1) _ (c .before .before .before .before .before .before .before .before .before .before .before .before .before .before .before .before .before .before .before .before .before .before .before .before .terminal-row .ensures) _ (attached c .attach .ensures) _ (c .one-more .ensures)
+returns c = did-onto (c .before .before .before .before .before .before .before .before .before .before .before .before .before .before .before .before .before .before .before .before .before .before .before .before .before .before .before .before .before .before .before .before .before .before .before .before .before .before .pre) _ (c .before .before .before .before .before .before .before .before .before .before .before .before .before .before .before .before .before .before .before .before .before .before .before .before .before .before .before .before .before .j .given .1) _ (c .before .before .before .before .before .before .before .before .before .before .before .before .before .before .before .before .before .before .before .before .before .before .before .before .terminal-row .ensures) _ (attached c .attach .ensures) _ (c .one-more .ensures)
 
 same-length-9 : tie.Need-same-length-9
 same-length-9 c = split c .split-branch .kept .0
@@ -95,7 +88,7 @@ same-length-16 : tie.Need-same-length-16
 same-length-16 c = split c .split-branch .kept .1 .1 .1 .1 .1 .1 .1 .0
 
 returns-2 : tie.Need-returns-2
-returns-2 c = did-split (c .before .before .before .before .before .before .before .before .before .before .before .before .before .before .before .before .before .before .before .before .before .before .before .before .before .before .before .before .before .before .before .before .before .before .before .pre) _ _ (c .before .before .before .before .before .before .before .before .before .before .before .before .before .before .before .before .before .before .before .before .before .before .before .before .before .before .before .j2 .given .1) _ (split c .split-branch .ensures)
+returns-2 c = did-split (c .before .before .before .before .before .before .before .before .before .before .before .before .before .before .before .before .before .before .before .before .before .before .before .before .before .before .before .before .before .before .before .before .before .before .pre) _ _ (c .before .before .before .before .before .before .before .before .before .before .before .before .before .before .before .before .before .before .before .before .before .before .before .before .before .j2 .given .1) _ (split c .split-branch .ensures) _ (c .two-more .ensures)
 
 pub join-spec : {M : Type 1} → statement M
 join-spec =
@@ -107,9 +100,7 @@ join-spec =
     one-more-requires
     enum-known-j-2
     split-branch-requires
-    add-t57
-    add-t58
-    add-t59
+    two-more-requires
     same-length
     same-length-2
     same-length-3

@@ -32,36 +32,35 @@ distance-requires c κs = (start c .near, near c)
 distance-requires-2 : tie.Need-distance-requires-2
 distance-requires-2 c κs = (near (c .before), c .before .before .before .before .before .before .before .pre .1 .1 .0)
 
-add-t17 : tie.Need-add-t17
-add-t17 c =
-    let n = c .before .before .before in
-    omega (arith, start n .long, dist-small (start n .near) (near n), c .before .before .distance .ensures)
-
 add-t18 : tie.Need-add-t18
-add-t18 c =
-    let n = c .before .before .before in
+add-t18 c = search needs
+
+add-t19 : tie.Need-add-t19
+add-t19 c =
+    let n = c .before .before .before .before in
+    omega (arith, start n .long, dist-small (start n .near) (near n), c .before .before .before .distance .ensures)
+
+add-t20 : tie.Need-add-t20
+add-t20 c =
+    let n = c .before .before .before .before in
     omega (
       arith,
       start n .long,
       dist-small (start n .near) (near n),
-      c .before .before .distance .ensures,
-      dist-small (near n) (n .before .before .before .before .before .before .pre .1 .1 .0),
-      c .before .distance2 .ensures,
+      c .before .before .before .distance .ensures,
+      dist-small (near n) (c .before .before .before .before .before .before .before .before .before .before .pre .1 .1 .0),
+      c .before .before .distance2 .ensures,
     )
 
-add-t19 : tie.Need-add-t19
-add-t19 c = search needs
-
-add-t17-2 : tie.Need-add-t17-2
-add-t17-2 c =
+add-t19-2 : tie.Need-add-t19-2
+add-t19-2 c =
     let n = c .before .before .before .before .before in
     omega (arith, start n .long, dist-small (start n .near) (near n), c .before .before .before .before .distance .ensures)
 
 returns : tie.Need-returns
 returns c =
-    let n = c .before .before .before .before .before in
-    split-rows-are (n .before .before .before .before .before .before .args .k) _ _ _ _ _ _ _ _ (n .before .before .before .before .spot-at .ensures) (n .before .before .before .spot-at2 .ensures)
-    (n .nearest-on .ensures) (c .before .before .before .before .distance .ensures) (c .before .before .before .distance2 .ensures)
+    split-rows-are (c .before .before .before .before .before .before .before .before .before .before .before .args .k) _ _ _ _ _ _ _ _ (c .before .before .before .before .before .before .before .before .before .spot-at .ensures) (c .before .before .before .before .before .before .before .before .spot-at2 .ensures) (c .before .before .before .before .before .nearest-on .ensures) (c .before .before .before .before .distance .ensures)
+    (c .before .before .before .distance2 .ensures)
 
 pub split-rows-spec : {M : Type 1} → statement M
 split-rows-spec =
@@ -72,8 +71,8 @@ split-rows-spec =
     nearest-on-requires
     distance-requires
     distance-requires-2
-    add-t17
     add-t18
     add-t19
-    add-t17-2
+    add-t20
+    add-t19-2
     returns)

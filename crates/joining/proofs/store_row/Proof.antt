@@ -69,7 +69,7 @@ returns c =
       xs = set (s .args .xs .now) (e k) (toZ-ofZ w32 _ (f .xcoord) k);
       ys = set (s .args .ys .now) (e k) (toZ-ofZ w32 _ (f .ycoord) k);
       path = set (s .args .path .now) (e k) (s .args .row .path);
-      parent = set (s .args .parent .now) (e k) (s .args .row .parent);
+      parent = set (s .args .parent .now) (e k) (s .args .row .parent .0);
       kind = set (s .args .kind .now) (e k) (s .args .row .kind);
       number = set (s .args .number .now) (e k) (s .args .row .number);
     }

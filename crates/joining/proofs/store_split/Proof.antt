@@ -21,27 +21,27 @@ second c = c .before .before .before .before .before .before .before .before .be
 split-rows-requires : tie.Need-split-rows-requires
 split-rows-requires c κs = let v = c .before .before .before .before .before .before .before .pre in (v .at, (v .to, (v .within, omega (arith, v .room, v .few))))
 
-add-s : tie.Need-add-s
-add-s c = let v = c .before .before .before .before .before .before .before .before .before .before .pre in omega (arith, v .room, v .few)
+add-t23 : tie.Need-add-t23
+add-t23 c = let v = c .before .before .before .before .before .before .before .before .before .before .before .pre in omega (arith, v .room, v .few)
 
 store-row-requires : tie.Need-store-row-requires
-store-row-requires c κs = let v = c .before .before .before .before .before .before .before .before .before .before .before .before .before .before .before .before .pre in (v .sized, omega (arith, v .room))
+store-row-requires c κs = let v = c .before .before .before .before .before .before .before .before .before .before .before .before .before .before .before .before .before .pre in (v .sized, omega (arith, v .room))
 
 store-row-requires-2 : tie.Need-store-row-requires-2
 store-row-requires-2 c κs =
-    let s = c .before .before .before .before .before .before .before .before .before .before .before .before .before .before .before .before .before .before .before .before .before .before .before .before .before .before .before .before .before .before .before .before .before in
-    again (rows s) _ (s .args .k .nodes) (c .before .before .before .before .before .before .before .before .before .before .before .before .before .before .before .before .before .before .before .before .before .before .before .before .before .split-rows .result .terminal) (s .pre .sized) (c .before .before .before .before .before .before .before .before .before .before .before .before .before .before .before .before .store-row .ensures) _ (s .pre .room)
+    let s = c .before .before .before .before .before .before .before .before .before .before .before .before .before .before .before .before .before .before .before .before .before .before .before .before .before .before .before .before .before .before .before .before .before .before in
+    again (rows s) _ (s .args .k .nodes) (c .before .before .before .before .before .before .before .before .before .before .before .before .before .before .before .before .before .before .before .before .before .before .before .before .before .before .split-rows .result .terminal) (s .pre .sized) (c .before .before .before .before .before .before .before .before .before .before .before .before .before .before .before .before .store-row .ensures) _ (s .pre .room)
 
 wide-requires : tie.Need-wide-requires
 wide-requires c κs = search needs
 
 mul-parent : tie.Need-mul-parent
-mul-parent c = omega (arith, c .wide .ensures, c .before .before .before .before .before .before .before .before .before .before .before .before .before .before .before .before .before .before .before .before .before .before .before .before .before .before .before .before .before .before .before .before .before .before .before .before .before .before .before .before .before .before .before .before .before .fits .c)
+mul-parent c = let v = c .before .before .before .before .before .before .before .before .before .before .before .before .before .before .before .before .before .before .before .before .before .before .before .before .before .before .before .before .before .before .before .before .before .before .before .before .before .before .before .before .before .before .before .before .before .before .pre in omega (arith, c .wide .ensures, v .to .in-range .in-xs, v .few)
 
 slice-write-parent : tie.Need-slice-write-parent
 slice-write-parent c =
-    let s = c .before .before .before .before .before .before .before .before .before .before .before .before .before .before .before .before .before .before .before .before .before .before .before .before .before .before .before .before .before .before .before .before .before .before .before .before .before .before .before .before .before .before .before .before .before in
-    let new = c .before .before .before .before .before .before .before .before .before .before .before .before .before .before .before .before .before .before .before .before .before .before .before .before .before .before .before .before .before .before .before .before .before .before .before .before .before .split-rows .result in
+    let s = c .before .before .before .before .before .before .before .before .before .before .before .before .before .before .before .before .before .before .before .before .before .before .before .before .before .before .before .before .before .before .before .before .before .before .before .before .before .before .before .before .before .before .before .before .before .before in
+    let new = c .before .before .before .before .before .before .before .before .before .before .before .before .before .before .before .before .before .before .before .before .before .before .before .before .before .before .before .before .before .before .before .before .before .before .before .before .before .before .split-rows .result in
     in-parent (rows s) _ (s .args .k .nodes) (new .terminal) (s .pre .sized) (first (second c) .store-row .ensures) _ _ (new .steiner) (second c .store-row2 .ensures) _ _ (c .wide .ensures)
     (s .pre .to .in-range .in-xs)
 
@@ -56,8 +56,8 @@ same-length-3 c = second c .store-row2 .kept .1 .1 .0 ∙ first (second c) .stor
 
 same-length-4 : tie.Need-same-length-4
 same-length-4 c =
-    let s = c .before .before .before .before .before .before .before .before .before .before .before .before .before .before .before .before .before .before .before .before .before .before .before .before .before .before .before .before .before .before .before .before .before .before .before .before .before .before .before .before .before .before .before .before .before in
-    let new = c .before .before .before .before .before .before .before .before .before .before .before .before .before .before .before .before .before .before .before .before .before .before .before .before .before .before .before .before .before .before .before .before .before .before .before .before .before .split-rows .result in
+    let s = c .before .before .before .before .before .before .before .before .before .before .before .before .before .before .before .before .before .before .before .before .before .before .before .before .before .before .before .before .before .before .before .before .before .before .before .before .before .before .before .before .before .before .before .before .before .before in
+    let new = c .before .before .before .before .before .before .before .before .before .before .before .before .before .before .before .before .before .before .before .before .before .before .before .before .before .before .before .before .before .before .before .before .before .before .before .before .before .before .split-rows .result in
     parent-length (rows s) _ (s .args .k .nodes) (new .terminal) (s .pre .sized) (first (second c) .store-row .ensures) _ _ (new .steiner) (second c .store-row2 .ensures) _ _
 
 same-length-5 : tie.Need-same-length-5
@@ -68,8 +68,8 @@ same-length-6 c = second c .store-row2 .kept .1 .1 .1 .1 .1 .0 ∙ first (second
 
 returns : tie.Need-returns
 returns c =
-    let s = c .before .before .before .before .before .before .before .before .before .before .before .before .before .before .before .before .before .before .before .before .before .before .before .before .before .before .before .before .before .before .before .before .before .before .before .before .before .before .before .before .before .before .before .before .before in
-    stored-split (rows s) _ _ (s .args .k) (s .args .p) (s .args .c) (s .args .q) (c .before .before .before .before .before .before .before .before .before .before .before .before .before .before .before .before .before .before .before .before .before .before .before .before .before .before .before .before .before .before .before .before .before .before .before .before .before .split-rows .result) _ (c .before .before .before .before .before .before .before .before .before .before .before .before .before .before .before .before .before .before .before .before .before .before .before .before .before .before .before .before .before .before .before .before .before .before .before .before .before .split-rows .ensures) (first (second c) .store-row .ensures) (second c .store-row2 .ensures)
+    let s = c .before .before .before .before .before .before .before .before .before .before .before .before .before .before .before .before .before .before .before .before .before .before .before .before .before .before .before .before .before .before .before .before .before .before .before .before .before .before .before .before .before .before .before .before .before .before in
+    stored-split (rows s) _ _ (s .args .k) (s .args .p .0) (s .args .c .0) (s .args .q) (c .before .before .before .before .before .before .before .before .before .before .before .before .before .before .before .before .before .before .before .before .before .before .before .before .before .before .before .before .before .before .before .before .before .before .before .before .before .before .split-rows .result) _ (c .before .before .before .before .before .before .before .before .before .before .before .before .before .before .before .before .before .before .before .before .before .before .before .before .before .before .before .before .before .before .before .before .before .before .before .before .before .before .split-rows .ensures) (first (second c) .store-row .ensures) (second c .store-row2 .ensures)
     (c .wide .ensures)
 
 pub store-split-spec : {M : Type 1} → statement M
@@ -77,7 +77,7 @@ store-split-spec =
     tie.close
     (tie.spec
     split-rows-requires
-    add-s
+    add-t23
     store-row-requires
     store-row-requires-2
     wide-requires

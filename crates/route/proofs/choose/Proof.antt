@@ -2,7 +2,7 @@
 use mathlib.Core.Path.{ap, sym, _∙_}
 use Rattle.geometry.specs.Signed.{home}
 use Rattle.job.specs.declared.Mode.{Mode}
-use Rattle.joining.specs.declared.Way.the-variants.{Search}
+use Rattle.inserting.specs.declared.Way.the-variants.{Search}
 use Rattle.route.specs.Plan.{choiceOf}
 use borrow.Author.Needs.{needs}
 use Rattle.route.proofs.choose.Statement.{statement}

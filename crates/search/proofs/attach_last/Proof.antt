@@ -39,7 +39,7 @@ returns : tie.Need-returns
 returns c =
     let s = c .before .before .before .before .before in
     record {
-      lasts = ap (λ (i : ℕ). set (s .args .last .now) i (s .args .c)) (c .before .before .wide .ensures);
+      lasts = ap (λ (i : ℕ). set (s .args .last .now) i (s .args .c .0)) (c .before .before .wide .ensures);
       prevs = λ k. set (s .args .prev .now) (c .before .wide2 .ensures k) (getD (s .args .last .now) (c .before .before .wide .ensures k) 0);
     }
 

@@ -9,7 +9,7 @@ use Rattle.search.proofs.before.Statement.{statement}
 use Rattle.search.proofs.before.Tie as tie
 
 abbrev Inv-loop : tie.InvT-loop
-Inv-loop prev first c k d₀ e₀ d e = Hunt prev first c d e
+Inv-loop prev first c k d₀ e₀ d e = Hunt prev first (c .0) d e
 
 abbrev μ-loop : tie.MeasureT-loop
 μ-loop prev first c k d₀ e₀ d e = length (chain prev e)
@@ -18,10 +18,10 @@ wide-requires : tie.Need-wide-requires Inv-loop μ-loop
 wide-requires c κs = tt
 
 mul-e : tie.Need-mul-e Inv-loop μ-loop
-mul-e c = let s = c .before .before in omega (arith, c .wide .ensures, opened _ (s .args .first) (s .args .c) (s .pre .0) _ (s .pre .1 .0) (s .pre .1 .1 .0) .here)
+mul-e c = let s = c .before .before in omega (arith, c .wide .ensures, opened _ (s .args .first) (s .args .c .0) (s .pre .0) _ (s .pre .1 .0) (s .pre .1 .1 .0) .here)
 
 shared-slice-read-e : tie.Need-shared-slice-read-e Inv-loop μ-loop
-shared-slice-read-e c = let s = c .before .before .before in omega (arith, c .before .wide .ensures, opened _ (s .args .first) (s .args .c) (s .pre .0) _ (s .pre .1 .0) (s .pre .1 .1 .0) .here)
+shared-slice-read-e c = let s = c .before .before .before in omega (arith, c .before .wide .ensures, opened _ (s .args .first) (s .args .c .0) (s .pre .0) _ (s .pre .1 .0) (s .pre .1 .1 .0) .here)
 
 loop-holds : tie.Need-loop-holds Inv-loop μ-loop
 loop-holds c = let s = c .before .before .before in begins _ _ _ (s .pre .0) (s .pre .1 .0) (s .pre .1 .1 .0) (s .pre .1 .1 .1) _ (c .before .wide .ensures)
@@ -30,19 +30,19 @@ wide-requires-2 : tie.Need-wide-requires-2 Inv-loop μ-loop
 wide-requires-2 c κs = tt
 
 mul-e-2 : tie.Need-mul-e-2 Inv-loop μ-loop
-mul-e-2 c = let s = c .before .before .before .before .before .before in omega (arith, c .wide2 .ensures, here _ _ _ (s .pre .0) _ _ (c .before .before .loop .inv))
+mul-e-2 c = let s = c .before .before .before .before .before .before .before in omega (arith, c .wide2 .ensures, here _ _ _ (s .pre .0) _ _ (c .before .before .before .loop .inv))
 
 shared-slice-read-e-2 : tie.Need-shared-slice-read-e-2 Inv-loop μ-loop
-shared-slice-read-e-2 c = let s = c .before .before .before .before .before .before .before in omega (arith, c .before .wide2 .ensures, here _ _ _ (s .pre .0) _ _ (c .before .before .before .loop .inv))
+shared-slice-read-e-2 c = let s = c .before .before .before .before .before .before .before .before in omega (arith, c .before .wide2 .ensures, here _ _ _ (s .pre .0) _ _ (c .before .before .before .before .loop .inv))
 
 loop-less : tie.Need-loop-less Inv-loop μ-loop
-loop-less c = let s = c .before .before .before .before .before .before .before in less _ _ _ (s .pre .0) _ _ (c .before .before .before .loop .inv) _ (c .before .wide2 .ensures)
+loop-less c = let s = c .before .before .before .before .before .before .before .before in less _ _ _ (s .pre .0) _ _ (c .before .before .before .before .loop .inv) _ (c .before .wide2 .ensures)
 
 loop-again : tie.Need-loop-again Inv-loop μ-loop
-loop-again c = let s = c .before .before .before .before .before .before .before in goes _ _ _ (s .pre .0) _ _ (c .before .before .before .loop .inv) (c .before .before .loop-test .taken) _ (c .before .wide2 .ensures)
+loop-again c = let s = c .before .before .before .before .before .before .before .before in goes _ _ _ (s .pre .0) _ _ (c .before .before .before .before .loop .inv) (c .before .before .if1 .taken) _ (c .before .wide2 .ensures)
 
 returns : tie.Need-returns Inv-loop μ-loop
-returns c = let s = c .before .before .before .before .before in (found _ _ _ (s .pre .0) _ _ (c .before .loop .inv) (c .loop-test .left), c .before .loop .inv .low)
+returns c = let s = c .before .before .before .before .before .before in (found _ _ _ (s .pre .0) _ _ (c .before .before .loop .inv) (c .if1 .left), c .before .before .loop .inv .low)
 
 pub before-spec : {M : Type 1} → statement M
 before-spec =

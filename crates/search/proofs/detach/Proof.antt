@@ -35,17 +35,17 @@ same-length : tie.Need-same-length
 same-length c = search needs
 
 returns : tie.Need-returns
-returns c = leaves-first _ _ _ _ _ _ (c .before .before .before .before .wide .ensures) (c .before .before .before .wide2 .ensures) (c .if1 .taken)
+returns c = leaves-first _ _ _ _ _ _ (c .before .before .before .before .before .wide .ensures) (c .before .before .before .before .wide2 .ensures) (c .if1 .taken)
 
 before-requires : tie.Need-before-requires
 before-requires c κs =
-    let s = c .before .before .before .before .before .before .before .before in
-    let e = sym (c .before .before .before .before .before .wide .ensures) in
+    let s = c .before .before .before .before .before .before .before .before .before in
+    let e = sym (c .before .before .before .before .before .before .wide .ensures) in
     let f : ℕ → ℕ = λ i. getD (s .args .last .now) i 0 in (
       s .pre .0,
       (
         subst (λ (i : ℕ). Linked (s .args .prev .now) (f i)) e (s .pre .1 .1 .0),
-        (subst (λ (i : ℕ). Has (s .args .c) (chain (s .args .prev .now) (f i))) e (s .pre .1 .1 .1), c .before .if1 .left),
+        (subst (λ (i : ℕ). Has (s .args .c .0) (chain (s .args .prev .now) (f i))) e (s .pre .1 .1 .1), c .before .if1 .left),
       ),
     )
 
@@ -62,7 +62,7 @@ same-length-2 : tie.Need-same-length-2
 same-length-2 c = search needs
 
 returns-2 : tie.Need-returns-2
-returns-2 c = leaves-other _ _ _ _ _ _ (c .before .before .before .before .before .before .before .wide .ensures) (c .before .before .before .before .before .before .wide2 .ensures) (c .before .before .before .if1 .left) _ _ (c .wide3 .ensures) (c .before .before2 .ensures .0)
+returns-2 c = leaves-other _ _ _ _ _ _ (c .before .before .before .before .before .before .before .before .wide .ensures) (c .before .before .before .before .before .before .before .wide2 .ensures) (c .before .before .before .if1 .left) _ _ (c .wide3 .ensures) (c .before .before2 .ensures .0)
 
 pub detach-spec : {M : Type 1} → statement M
 detach-spec =

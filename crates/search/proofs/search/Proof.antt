@@ -9,7 +9,7 @@ use Rattle.search.specs.declared.Spot.{Spot}
 use Rattle.search.specs.declared.Best.{Best}
 use Rattle.search.specs.declared.Join.the-variants.{Onto}
 use mathlib.Core.Bool.{false}
-use Rattle.search.specs.Search.{rectsOf, spotAt, start}
+use Rattle.search.specs.Search.{nodeIndex, rectsOf, spotAt, start}
 use Rattle.search.specs.Columns.{Has, chain, kidsOf, Linked, InReach}
 use Rattle.search.specs.Round.{Round, begins, finishes, Popped, pops}
 use Rattle.search.proofs.search.Statement.{statement}
@@ -49,7 +49,7 @@ loop-holds : tie.Need-loop-holds Inv-loop μ-loop
 loop-holds c =
     let s = c .before .before .before .before .before in
     begins _ _ _ _ _ _ _ _ (s .args .stack .now) _ (sym (length-set (s .args .stack .now) 0 0)) (omega (arith, s .pre .1 .0, length-set (s .args .stack .now) 0 0))
-    (λ i. record { join = Onto 0; best = c .least-one .ensures i; valid = false }) (rw length-set (s .pre .1 .1))
+    (λ i. record { join = Onto (nodeIndex 0); best = c .least-one .ensures i; valid = false }) (rw length-set (s .pre .1 .1))
 
 sub-top : tie.Need-sub-top Inv-loop μ-loop
 sub-top c = omega arith

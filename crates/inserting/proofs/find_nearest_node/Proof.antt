@@ -1,4 +1,4 @@
--- `joining::find_nearest_node`: each turn keeps the closer of the best so far and the next node.
+-- `inserting::find_nearest_node`: each turn keeps the closer of the best so far and the next node.
 use Prim.Native.Nat.{_-_}
 use mathlib.Core.Path.{sym, subst, _∙_, ap}
 use mathlib.Core.Logic.{⊎-elim}
@@ -8,9 +8,9 @@ use Rattle.geometry.specs.Laws.{Within}
 use Rattle.geometry.specs.Geometry.{dist}
 use Rattle.geometry.specs.declared.Point.{Point}
 use Rattle.search.specs.Search.{pointAt}
-use Rattle.joining.proofs.Nearest.{Seeking, starts, closer, not-closer, ends}
-use Rattle.joining.proofs.find_nearest_node.Statement.{statement}
-use Rattle.joining.proofs.find_nearest_node.Tie as tie
+use Rattle.inserting.proofs.Nearest.{Seeking, starts, closer, not-closer, ends}
+use Rattle.inserting.proofs.find_nearest_node.Statement.{statement}
+use Rattle.inserting.proofs.find_nearest_node.Tie as tie
 
 abbrev Inv-loop : tie.InvT-loop
 Inv-loop xs ys n q best₀ least₀ i₀ best least i = Seeking n xs ys q best least i

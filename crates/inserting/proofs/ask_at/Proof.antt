@@ -1,10 +1,10 @@
--- `joining::ask_at`: the point of the i-th terminal, and the rest as given.
+-- `inserting::ask_at`: the point of the i-th terminal, and the rest as given.
 use mir.Syntax.{w32}
 use mir.ValLaws.{toZ-ofZ}
 use Rattle.geometry.specs.Signed.{In32}
 use borrow.Author.Needs.{needs}
-use Rattle.joining.proofs.ask_at.Statement.{statement}
-use Rattle.joining.proofs.ask_at.Tie as tie
+use Rattle.inserting.proofs.ask_at.Statement.{statement}
+use Rattle.inserting.proofs.ask_at.Tie as tie
 
 point-at-requires : tie.Need-point-at-requires
 point-at-requires c κs = search needs

@@ -1,8 +1,9 @@
--- `joining::insert_simple`: the closest node is in the tree, and a row with path 0 is attached below it.
-use Rattle.joining.proofs.Inserting.{next-counts, near-columns, may-simple, did-simple}
+-- `inserting::insert_simple`: the closest node is in the tree, and a row with path 0 is attached below it.
+use Rattle.joining.proofs.Placing.{next-counts}
+use Rattle.inserting.proofs.Inserting.{near-columns, may-simple, did-simple}
 use native.Mathlib.Omega.{arith}
-use Rattle.joining.proofs.insert_simple.Statement.{statement}
-use Rattle.joining.proofs.insert_simple.Tie as tie
+use Rattle.inserting.proofs.insert_simple.Statement.{statement}
+use Rattle.inserting.proofs.insert_simple.Tie as tie
 
 find-nearest-node-requires : tie.Need-find-nearest-node-requires
 find-nearest-node-requires c κs = near-columns (c .before .before .before .before .before .before .before .before .pre)

@@ -11,15 +11,16 @@ use Rattle.tree.specs.Tree.{Tree}
 use Rattle.tree.specs.Route.{inserts, rooted}
 use Rattle.tree.specs.WellFormed.{WellFormed, Counted}
 use Rattle.search.specs.declared.Ask.{Ask}
-use Rattle.search.specs.Search.{pointAt}
+use Rattle.search.specs.Search.{nodeIndex, pointAt}
 use Rattle.joining.specs.declared.Row.{Row}
 use Rattle.joining.specs.declared.Counts.{Counts}
-use Rattle.joining.specs.declared.Way.{Way}
+use Rattle.inserting.specs.declared.Way.{Way}
 use Rattle.joining.specs.Store.{Columns, setRow, Sized, upTo, nodesOf}
-use Rattle.joining.specs.Insert.{Stores, Asks, stepOf}
+use Rattle.joining.specs.Standing.{Stores}
+use Rattle.inserting.specs.Insert.{Asks, stepOf}
 
 abbrev pub sourceRow : Point → Row
-sourceRow s = record { point = s; path = 0; parent = noNode; kind = 0; number = 0 }
+sourceRow s = record { point = s; path = 0; parent = nodeIndex noNode; kind = 0; number = 0 }
 
 -- the first i terminals
 abbrev pub firsts : List ℤ → List ℤ → ℕ → List Point
@@ -31,7 +32,7 @@ treeOf way ks px py a w i = inserts (stepOf way ks) (firsts px py i) (rooted (a 
 
 -- the tree that the columns and the counts hold
 abbrev pub treeIn : Columns → Counts → Ask → ℕ → Tree
-treeIn c k a w = record { nodes = nodesOf c (k .nodes); allowed = a .allowed; farthest = w; limit = a .limit; nextSteiner = k .steiner; nextTerminal = k .terminal }
+treeIn c k a w = record { nodes = nodesOf c (k .nodes); allowed = a .allowed; farthest = w; limit = a .limit; nextSteiner = k .steiner .0; nextTerminal = k .terminal .0 }
 
 abbrev pub askAt : List ℤ → List ℤ → ℕ → Ask → Ask
 askAt px py i a = record { q = pointAt px py i; limit = a .limit; allowed = a .allowed }
@@ -61,7 +62,7 @@ pub record Holds (a : Ask) (w : ℕ) (k : Counts) (c : Columns) (t : Tree) : Typ
 -- i terminals are in
 pub record Under (m : ℕ) (way : Way) (ks px py : List ℤ) (a : Ask) (i : ℕ) (k : Counts) (c : Columns) : Type 0 where
   pub low : i ≤ length px
-  pub next : k .terminal ≡ i + 1
+  pub next : k .terminal .0 ≡ i + 1
   pub sized : Sized m c
   pub holds : (w : ℕ) → Holds a w k c (treeOf way ks px py a w i)
 
@@ -69,5 +70,5 @@ pub record Under (m : ℕ) (way : Way) (ks px py : List ℤ) (a : Ask) (i : ℕ)
 pub record Routed (way : Way) (ks px py : List ℤ) (a : Ask) (k : Counts) (c : Columns) : Type 0 where
   pub tree : (w : ℕ) → treeIn c k a w ≡ treeOf way ks px py a w (length px)
   pub holds : (w : ℕ) → Holds a w k c (treeOf way ks px py a w (length px))
-  pub next : k .terminal ≡ length px + 1
+  pub next : k .terminal .0 ≡ length px + 1
   pub sized : Sized (length (c .rows .xs)) c

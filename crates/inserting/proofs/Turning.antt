@@ -4,28 +4,29 @@ use mathlib.Core.Path.{_≡_, refl, ap, sym, subst, _∙_}
 use mathlib.Core.List.{List, [], _∷_, _++_, reverse}
 use native.Mathlib.Omega.{arith}
 use native.Mathlib.Numerals.{add-one}
-use lib.ListN.{length, getD, set, length-set}
+use lib.ListN.{length, getD, length-set}
 use lib.Seq.{getD-set-same}
 use lib.IntN.{ℤ}
-use Rattle.tree.specs.Limits.{mostNodes, noNode, reach}
+use Rattle.tree.specs.Limits.{noNode, reach}
 use Rattle.geometry.specs.declared.Point.{Point}
 use Rattle.geometry.specs.Laws.{Within}
-use Rattle.tree.specs.Tree.{Node, Tree, nodeAt}
+use Rattle.tree.specs.Tree.{Tree, nodeAt}
 use Rattle.tree.specs.Route.{insert, insertSimple, inserts, rooted}
 use Rattle.tree.specs.WellFormed.{WellFormed, Counted}
 use Rattle.tree.proofs.Forming.{formed-insert, formed-simple, formed-start, counted-insert, counted-simple, counted-start}
 use Rattle.search.specs.declared.Ask.{Ask}
 use Rattle.search.specs.Search.{rectsOf, pointAt}
 use Rattle.search.specs.Columns.{Chain}
 use Rattle.joining.specs.declared.Counts.{Counts}
 use Rattle.joining.specs.declared.Row.{Row}
-use Rattle.joining.specs.declared.Way.{Way}
-use Rattle.joining.specs.declared.Way.the-variants.{Simple, Search}
+use Rattle.inserting.specs.declared.Way.{Way}
+use Rattle.inserting.specs.declared.Way.the-variants.{Simple, Search}
 use Rattle.joining.specs.Store.{Rows, Columns, rowAt, nodeFrom, parentFrom, nodesOf, upTo, Sized, SizedRows, Keeps}
-use Rattle.joining.specs.Insert.{Stores, Standing, Asks, Inserted, stepOf}
-use Rattle.joining.specs.Route.{sourceRow, firsts, treeOf, treeIn, askAt, Routable, Begun, Holds, Under, Routed}
+use Rattle.joining.specs.Standing.{Standing}
+use Rattle.inserting.specs.Insert.{Asks, Inserted, stepOf}
+use Rattle.inserting.specs.Route.{sourceRow, firsts, treeOf, treeIn, askAt, Routable, Begun, Holds, Under, Routed}
 use Rattle.joining.proofs.Steps.{row-same, sized-row}
 use Rattle.joining.proofs.Reading.{nodes-are}
 
 -- ---- one more terminal
 formed-step : (way : Way) (ks : List ℤ) (t : Tree) (q : Point) → WellFormed t → Within reach q → WellFormed (stepOf way ks t q)
@@ -101,7 +102,7 @@ module _ (way : Way) (ks px py : List ℤ) (a : Ask) (c₀ : Columns) (v : Routa
   wide-enough : 2 * length px + 1 ≤ m
   wide-enough = omega (arith, v .room, v .sized .prev)
 
-  pub starts : (c : Columns) → Begun c₀ (a .q) c → Under m way ks px py a 0 (record { nodes = 1; steiner = 1; terminal = 1 }) c
+  pub starts : (c : Columns) → Begun c₀ (a .q) c → Under m way ks px py a 0 (record { nodes = 1; steiner = record { 0 = 1 }; terminal = record { 0 = 1 } }) c
   unfolding treeOf upTo inserts
   starts c b =
       record {

@@ -1,6 +1,6 @@
 -- The loop over the nodes that keeps the closest: its start, a turn, its end. A strict test keeps the lowest index on ties.
-use Prim.Native.Nat.{ℕ, suc, _+_, _≤_, _<_}
-use mathlib.Core.Path.{_≡_, refl, ap, sym, subst, _∙_}
+use Prim.Native.Nat.{ℕ, _+_, _≤_, _<_}
+use mathlib.Core.Path.{_≡_, refl, ap, sym, _∙_}
 use mathlib.Core.Bool.{Bool, true, false, cond}
 use mathlib.Core.List.{List}
 use native.Mathlib.Omega.{arith}
@@ -13,7 +13,7 @@ use Rattle.geometry.specs.Geometry.{dist}
 use Rattle.tree.specs.Tree.{Node, nodeAt}
 use Rattle.tree.specs.Route.{closest}
 use Rattle.search.specs.Search.{pointAt}
-use Rattle.joining.specs.Insert.{Points, ClosestOf}
+use Rattle.inserting.specs.Insert.{Points, ClosestOf}
 
 -- `best` is the closest of the first i nodes, at distance `least`
 pub record Seeking (n : ℕ) (xs ys : List ℤ) (q : Point) (best least i : ℕ) : Type 0 where

@@ -1,8 +1,8 @@
--- `joining::insert_terminal`: either way is an insertion of its own; the search's place is in the tree.
-use Rattle.joining.proofs.Inserting.{by-simple, did-by-simple, ready, by-search, did-search}
+-- `inserting::insert_terminal`: either way is an insertion of its own; the search's place is in the tree.
+use Rattle.inserting.proofs.Inserting.{by-simple, did-by-simple, ready, by-search, did-search}
 use borrow.Author.Needs.{needs}
-use Rattle.joining.proofs.insert_terminal.Statement.{statement}
-use Rattle.joining.proofs.insert_terminal.Tie as tie
+use Rattle.inserting.proofs.insert_terminal.Statement.{statement}
+use Rattle.inserting.proofs.insert_terminal.Tie as tie
 
 enum-told : tie.Need-enum-told
 enum-told c = search needs

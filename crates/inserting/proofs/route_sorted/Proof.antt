@@ -1,13 +1,13 @@
--- `joining::route_sorted`: at the head of the loop the columns hold the tree of the terminals so far.
+-- `inserting::route_sorted`: at the head of the loop the columns hold the tree of the terminals so far.
 use Prim.Native.Nat.{_-_}
 use mathlib.Core.Path.{refl, sym, _∙_}
 use native.Mathlib.Omega.{arith}
 use lib.ListN.{length}
 use Rattle.joining.specs.Store.{Columns, rowsOf, columns}
-use Rattle.joining.specs.Route.{Under}
-use Rattle.joining.proofs.Turning.{starts, stands, turn, ends}
-use Rattle.joining.proofs.route_sorted.Statement.{statement}
-use Rattle.joining.proofs.route_sorted.Tie as tie
+use Rattle.inserting.specs.Route.{Under}
+use Rattle.inserting.proofs.Turning.{starts, stands, turn, ends}
+use Rattle.inserting.proofs.route_sorted.Statement.{statement}
+use Rattle.inserting.proofs.route_sorted.Tie as tie
 
 abbrev Inv-loop : tie.InvT-loop
 Inv-loop xs₀ ys₀ path₀ parent₀ kind₀ number₀ last₀ prev₀ px py ks way a k₀ i₀ xs ys path parent kind number last prev k i =

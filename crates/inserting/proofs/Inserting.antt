@@ -1,0 +1,116 @@
+-- What the two ways to insert a terminal need, and what they show: the closest node is the tree's, and the search's place is in the tree.
+use Prim.Native.Nat.{ℕ, suc, _≤_, _<_}
+use mathlib.Core.Path.{_≡_, refl, ap, sym, subst, _∙_}
+use mathlib.Core.List.{List, []}
+use native.Mathlib.Omega.{arith}
+use lib.ListN.{length}
+use lib.IntN.{ℤ}
+use Rattle.tree.specs.Limits.{mostNodes, reach}
+use Rattle.geometry.specs.declared.Point.{Point}
+use Rattle.geometry.specs.Laws.{Within}
+use Rattle.tree.specs.Tree.{Node, Tree, terminal}
+use Rattle.tree.specs.Search as T
+use Rattle.tree.specs.Route.{newNode, closest, insertSimple, insert}
+use Rattle.tree.specs.Route as TR
+use Rattle.tree.specs.WellFormed.{WellFormed, Fits, newNodes}
+use Rattle.tree.proofs.Routing.{closest-in}
+use Rattle.tree.proofs.Fitting.{find-fits}
+use Rattle.tree.proofs.Forming.{attached}
+use Rattle.search.specs.declared.Ask.{Ask}
+use Rattle.search.specs.declared.Join.{Join}
+use Rattle.search.specs.Search.{rectsOf}
+use Rattle.search.specs.Find.{joinOf, find-is}
+use Rattle.search.specs.Whole.{Ready, Joins}
+use Rattle.joining.specs.declared.Counts.{Counts}
+use Rattle.inserting.specs.declared.Way.{Way}
+use Rattle.inserting.specs.declared.Way.the-variants.{Simple, Search}
+use Rattle.joining.specs.Store.{Columns}
+use Rattle.joining.specs.Join.{terminalRow, oneMore, Attachable, RowAttached}
+use Rattle.joining.specs.Standing.{Stores, Standing, Anything, At, Joined}
+use Rattle.inserting.specs.Insert.{Points, NearColumns, ClosestOf, InsertedSimple, Asks, Inserted}
+use Rattle.joining.proofs.Reading.{walks, kept}
+use Rattle.joining.proofs.Placing.{weaker, few, may-attach}
+use Rattle.joining.proofs.Growing.{stores-terminal, sized-terminal}
+
+-- ---- at the closest node
+points-of : {t : Tree} {k : Counts} {c : Columns} → Stores t k c → Points (t .nodes) (k .nodes) (c .rows .xs) (c .rows .ys)
+points-of s = record { size = s .size; points = λ i h. sym (ap (λ (n : Node). n .point) (s .keeps .rows i (omega (arith, s .size)))) }
+
+module _ {q : Point} {k : Counts} {c : Columns} (v : Standing Anything 1 q k c) where
+  pub near-columns : NearColumns (k .nodes) (c .rows .xs) (c .rows .ys) q
+  near-columns =
+      record {
+        some = omega (arith, v .stores .size, v .formed .linked .some);
+        in-xs = omega (arith, v .room);
+        in-ys = omega (arith, v .room, v .sized .rows .ys);
+        near = λ i h. subst (Within reach) (sym (points-of (v .stores) .points i h)) (v .formed .near i);
+        within = v .within;
+      }
+
+  module _ (p : ℕ) (e : ClosestOf (k .nodes) (k .nodes) (c .rows .xs) (c .rows .ys) q p) where
+    is : (t : Tree) → Stores t k c → p ≡ closest (t .nodes) q (length (t .nodes))
+    is t s = e (t .nodes) (points-of s) ∙ ap (closest (t .nodes) q) (sym (s .size))
+
+    in-tree : (t : Tree) → WellFormed t → Stores t k c → p < length (t .nodes)
+    in-tree t f s = subst (λ (x : ℕ). x < length (t .nodes)) (sym (is t s)) (closest-in (t .nodes) q (f .linked .some) (length (t .nodes)) (omega arith))
+
+    pub may-simple : Attachable c (k .nodes) p
+    may-simple = may-attach v (omega arith) p (in-tree (v .tree) (v .formed) (v .stores))
+
+    pub did-simple : (c′ : Columns) → RowAttached c (k .nodes) (terminalRow p q 0 (k .terminal .0)) c′ → (r : Counts) → r ≡ oneMore k → InsertedSimple q k c r c′
+    unfolding insertSimple
+    did-simple c′ o r ek =
+        subst (λ (x : Counts). InsertedSimple q k c x c′) (sym ek)
+        (record {
+          stores = λ t f w s.
+              subst (λ (x : ℕ). Stores (attached t x (newNode (terminal (t .nextTerminal)) x q [] 0) (t .nextSteiner) (suc (t .nextTerminal))) (oneMore k) c′) (is t s)
+              (stores-terminal t f k c s _ (v .sized) (omega (arith, v .room)) p (in-tree t f s) q 0 0 refl c′ o);
+          sized = sized-terminal (v .tree) (v .formed) k c (v .stores) _ (v .sized) (omega (arith, v .room)) p (in-tree (v .tree) (v .formed) (v .stores)) q 0 0 refl c′ o;
+        })
+
+-- ---- by the search
+module _ {k : Counts} {c : Columns} (a : Ask) (v : Standing (Asks a) 2 (a .q) k c) where
+  pub by-simple : Standing Anything 1 (a .q) k c
+  by-simple = weaker v (λ h. tt) (omega arith)
+
+  pub did-by-simple : (way : Way) → way ≡ Simple → (ks : List ℤ) (r : Counts) (c′ : Columns) → InsertedSimple (a .q) k c r c′ → Inserted way ks a k c r c′
+  did-by-simple way e ks r c′ o = subst (λ (x : Way). Inserted x ks a k c r c′) (sym e) (record { stores = λ t f h s. o .stores t f tt s; sized = o .sized })
+
+  module _ (w : ℕ) (ew : w ≡ k .nodes) where
+    pub ready : Ready w a (c .rows .xs) (c .rows .ys) (c .rows .path) (c .last) (c .prev)
+    ready =
+        record {
+          nodes = v .tree .nodes;
+          size = v .stores .size ∙ sym ew;
+          small = omega (arith, v .small);
+          kept = kept (v .tree) (v .formed) (few v) _ c (v .sized) (v .stores .keeps) (omega (arith, v .stores .size, v .room));
+          tree = walks (v .tree) (v .formed) (few v);
+          q = v .within;
+        }
+
+    module _ (ks : List ℤ) (j : Join) (joins : Joins w a (c .rows .xs) (c .rows .ys) (c .rows .path) (c .last) (c .prev) ks j) where
+      found-is : (t : Tree) → WellFormed t → Asks a t → Stores t k c → T.find (T.blocked (rectsOf ks)) (t .nodes) (t .limit) (t .allowed) (a .q) ≡ joinOf j
+      found-is t f asks s =
+          let small : length (t .nodes) ≤ mostNodes = omega (arith, s .size, v .small) in
+          (λ i. T.find (T.blocked (rectsOf ks)) (t .nodes) (asks .limit i) (asks .allowed i) (a .q))
+          ∙ find-is (rectsOf ks) (t .nodes) a
+          ∙ ap joinOf (sym (joins (t .nodes) (s .size ∙ sym ew) (walks t f small) (kept t f small _ c (v .sized) (s .keeps) (omega (arith, s .size, v .room)))))
+
+      fits : (t : Tree) → WellFormed t → Asks a t → Stores t k c → At j t
+      fits t f asks s = subst (Fits (t .nodes)) (found-is t f asks s) (find-fits (t .nodes) (f .linked) (T.blocked (rectsOf ks)) (t .limit) (t .allowed) (a .q))
+
+      pub by-search : Standing (At j) (newNodes (joinOf j)) (a .q) k c
+      by-search = weaker v (λ h. fits (v .tree) (v .formed) h (v .stores)) (most (joinOf j))
+        where
+          most : (x : T.Join) → newNodes x ≤ 2
+          most (T.onto p) = omega arith
+          most (T.split p d) = omega arith
+
+      pub did-search : (way : Way) → way ≡ Search → (r : Counts) (c′ : Columns) → Joined j (a .q) k c r c′ → Inserted way ks a k c r c′
+      unfolding insert
+      did-search way e r c′ o =
+          subst (λ (x : Way). Inserted x ks a k c r c′) (sym e)
+          (record {
+            stores = λ t f h s. subst (λ (x : T.Join). Stores (TR.join t (a .q) x) r c′) (sym (found-is t f h s)) (o .stores t f (fits t f h s) s);
+            sized = o .sized;
+          })

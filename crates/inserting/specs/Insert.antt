@@ -1,0 +1,53 @@
+-- The two ways to insert a terminal, on columns.
+use Prim.Native.Nat.{ℕ, _≤_, _<_}
+use mathlib.Core.Path.{_≡_}
+use mathlib.Core.List.{List}
+use lib.ListN.{length}
+use lib.IntN.{ℤ}
+use Rattle.tree.specs.Limits.{reach}
+use Rattle.geometry.specs.declared.Point.{Point}
+use Rattle.geometry.specs.Laws.{Within}
+use Rattle.tree.specs.Tree.{Node, Tree, nodeAt}
+use Rattle.tree.specs.Route.{closest, insert, insertSimple}
+use Rattle.search.specs.declared.Ask.{Ask}
+use Rattle.search.specs.Search.{rectsOf, pointAt}
+use Rattle.joining.specs.declared.Counts.{Counts}
+use Rattle.joining.specs.Store.{Columns}
+use Rattle.joining.specs.Standing.{Grows, Anything}
+use Rattle.inserting.specs.declared.Way.{Way}
+use Rattle.inserting.specs.declared.Way.the-variants.{Simple, Search}
+
+-- ---- the closest node
+-- n nodes whose points stand in columns
+pub record Points (ns : List Node) (n : ℕ) (xs ys : List ℤ) : Type 0 where
+  pub size : length ns ≡ n
+  pub points : (i : ℕ) → i < n → pointAt xs ys i ≡ nodeAt ns i .point
+
+pub record NearColumns (n : ℕ) (xs ys : List ℤ) (q : Point) : Type 0 where
+  pub some : 0 < n
+  pub in-xs : n ≤ length xs
+  pub in-ys : n ≤ length ys
+  pub near : (i : ℕ) → i < n → Within reach (pointAt xs ys i)
+  pub within : Within reach q
+
+-- r is the closest of the first i nodes
+abbrev pub ClosestOf : ℕ → ℕ → List ℤ → List ℤ → Point → ℕ → Type 0
+ClosestOf i n xs ys q r = (ns : List Node) → Points ns n xs ys → r ≡ closest ns q i
+
+-- at the closest node
+abbrev pub InsertedSimple : Point → Counts → Columns → Counts → Columns → Type 0
+InsertedSimple q = Grows Anything (λ t. insertSimple t q)
+
+-- ---- either way
+-- the search asks for the tree's limit and allowance
+pub record Asks (a : Ask) (t : Tree) : Type 0 where
+  pub limit : t .limit ≡ a .limit
+  pub allowed : t .allowed ≡ a .allowed
+
+-- how a terminal is inserted
+abbrev pub stepOf : Way → List ℤ → Tree → Point → Tree
+stepOf Simple ks = insertSimple
+stepOf Search ks = insert (rectsOf ks)
+
+abbrev pub Inserted : Way → List ℤ → Ask → Counts → Columns → Counts → Columns → Type 0
+Inserted way ks a = Grows (Asks a) (λ t. stepOf way ks t (a .q))

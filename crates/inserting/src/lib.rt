@@ -1,0 +1,198 @@
+// Inserting terminals into a tree that is kept in lent columns: at the closest node or where the search finds, and the loop over sorted terminals.
+use geometry::Point;
+use joining::Counts;
+use joining::Row;
+use search::Ask;
+use tree::NodeIndex;
+use tree::SteinerNumber;
+use tree::TerminalNumber;
+ghost use mathlib.Core.Path.{_≡_};
+ghost use Prim.Native.Nat.{ℕ, _<_};
+ghost use lib.ListN.{length, set};
+ghost use Rattle.tree.specs.Limits.{noNode};
+ghost use Rattle.joining.specs.Store.{rowsOf, columns, setRow, SizedRows};
+ghost use Rattle.joining.specs.Standing.{Standing, Anything};
+ghost use Rattle.inserting.specs.Insert.{NearColumns, ClosestOf, InsertedSimple, Asks, Inserted};
+ghost use Rattle.inserting.specs.Route.{sourceRow, askAt, Routable, Routed};
+
+// How a terminal finds its place: at the closest node, or by the search.
+pub enum Way {
+    Simple,
+    Search,
+}
+
+// ---- one terminal
+
+// The node of least distance to q among the first n, the lowest index on ties.
+pub fn find_nearest_node<'a>(xs: &'a [i32], ys: &'a [i32], n: u16, q: Point) -> NodeIndex
+    requires { ⌜ NearColumns n (now xs) (now ys) q ⌝ }
+    ensures { λ r. ⌜ ClosestOf n n (now (xs .entry)) (now (ys .entry)) q (r .0) ⌝ }
+{
+    let s = search::point_at(xs, ys, 0);
+    let mut best: u16 = 0;
+    let mut least = search::distance(s, q);
+    let mut i: u16 = 1;
+    while i < n {
+        let m = search::wide(i);
+        let p = search::point_at(xs, ys, m);
+        let d = search::distance(p, q);
+        if d < least {
+            best = i;
+            least = d;
+        }
+        i = i + 1;
+    }
+    NodeIndex(best)
+}
+
+// A terminal at q joins the closest node; its path length stays 0.
+pub fn insert_simple(
+    xs: &mut [i32],
+    ys: &mut [i32],
+    path: &mut [u32],
+    parent: &mut [u16],
+    kind: &mut [u8],
+    number: &mut [u16],
+    last: &mut [u16],
+    prev: &mut [u16],
+    k: Counts,
+    q: Point,
+) -> Counts
+    requires { ⌜ Standing Anything 1 q k (columns (rowsOf (now xs) (now ys) (now path) (now parent) (now kind) (now number)) (now last) (now prev)) ⌝ }
+    ensures { λ r. ⌜ InsertedSimple q k (columns (rowsOf (now (xs .entry)) (now (ys .entry)) (now (path .entry)) (now (parent .entry)) (now (kind .entry)) (now (number .entry))) (now (last .entry)) (now (prev .entry))) r (columns (rowsOf (now (xs .exit)) (now (ys .exit)) (now (path .exit)) (now (parent .exit)) (now (kind .exit)) (now (number .exit))) (now (last .exit)) (now (prev .exit))) ⌝ }
+{
+    let p = find_nearest_node(xs, ys, k.nodes, q);
+    let row = Row {
+        point: q,
+        path: 0,
+        parent: p,
+        kind: 2,
+        number: k.terminal.0,
+    };
+    let n = NodeIndex(k.nodes);
+    joining::attach(xs, ys, path, parent, kind, number, last, prev, n, row);
+    joining::one_more(k)
+}
+
+// The next terminal joins, by one way or the other.
+pub fn insert_terminal(
+    xs: &mut [i32],
+    ys: &mut [i32],
+    path: &mut [u32],
+    parent: &mut [u16],
+    kind: &mut [u8],
+    number: &mut [u16],
+    last: &mut [u16],
+    prev: &mut [u16],
+    k: Counts,
+    way: Way,
+    ask: Ask,
+    ks: &[i32],
+) -> Counts
+    requires { ⌜ Standing (Asks ask) 2 (ask .q) k (columns (rowsOf (now xs) (now ys) (now path) (now parent) (now kind) (now number)) (now last) (now prev)) ⌝ }
+    ensures { λ r. ⌜ Inserted way (now (ks .entry)) ask k (columns (rowsOf (now (xs .entry)) (now (ys .entry)) (now (path .entry)) (now (parent .entry)) (now (kind .entry)) (now (number .entry))) (now (last .entry)) (now (prev .entry))) r (columns (rowsOf (now (xs .exit)) (now (ys .exit)) (now (path .exit)) (now (parent .exit)) (now (kind .exit)) (now (number .exit))) (now (last .exit)) (now (prev .exit))) ⌝ }
+{
+    let q = ask.q;
+    match way {
+        Way::Simple => insert_simple(xs, ys, path, parent, kind, number, last, prev, k, q),
+        Way::Search => {
+            let n = search::wide(k.nodes);
+            let j = search::join_of(n, ask, xs, ys, path, last, prev, ks);
+            joining::join(xs, ys, path, parent, kind, number, last, prev, k, q, j)
+        }
+    }
+}
+
+// ---- the route
+
+// The source alone.
+fn store_source(
+    xs: &mut [i32],
+    ys: &mut [i32],
+    path: &mut [u32],
+    parent: &mut [u16],
+    kind: &mut [u8],
+    number: &mut [u16],
+    last: &mut [u16],
+    s: Point,
+)
+    requires { ⌜ SizedRows (length (now xs)) (rowsOf (now xs) (now ys) (now path) (now parent) (now kind) (now number)) ⌝ }
+    requires { ⌜ (0 < length (now xs)) × (0 < length (now last)) ⌝ }
+    ensures { λ r. ⌜ (rowsOf (now (xs .exit)) (now (ys .exit)) (now (path .exit)) (now (parent .exit)) (now (kind .exit)) (now (number .exit)) ≡ setRow (rowsOf (now (xs .entry)) (now (ys .entry)) (now (path .entry)) (now (parent .entry)) (now (kind .entry)) (now (number .entry))) 0 (sourceRow s)) × (now (last .exit) ≡ set (now (last .entry)) 0 noNode) ⌝ }
+{
+    let none = NodeIndex(tree::NO_NODE);
+    let source = NodeIndex(0);
+    let row = Row {
+        point: s,
+        path: 0,
+        parent: none,
+        kind: 0,
+        number: 0,
+    };
+    joining::store_row(xs, ys, path, parent, kind, number, source, row);
+    last[0] = tree::NO_NODE;
+}
+
+// The search's question for the i-th terminal.
+fn ask_at<'a>(px: &'a [i32], py: &'a [i32], i: usize, a: Ask) -> Ask
+    requires { ⌜ (i < length (now px)) × (i < length (now py)) ⌝ }
+    ensures { λ r. ⌜ r ≡ askAt (now (px .entry)) (now (py .entry)) i a ⌝ }
+{
+    let q = search::point_at(px, py, i);
+    Ask {
+        q: q,
+        limit: a.limit,
+        allowed: a.allowed,
+    }
+}
+
+// The tree of the source at a's point and the terminals, which are sorted, joined in their order.
+pub fn route_sorted<'a>(
+    xs: &mut [i32],
+    ys: &mut [i32],
+    path: &mut [u32],
+    parent: &mut [u16],
+    kind: &mut [u8],
+    number: &mut [u16],
+    last: &mut [u16],
+    prev: &mut [u16],
+    px: &'a [i32],
+    py: &'a [i32],
+    ks: &'a [i32],
+    way: Way,
+    a: Ask,
+) -> Counts
+    requires { ⌜ Routable (now px) (now py) a (columns (rowsOf (now xs) (now ys) (now path) (now parent) (now kind) (now number)) (now last) (now prev)) ⌝ }
+    ensures { λ r. ⌜ Routed way (now (ks .entry)) (now (px .entry)) (now (py .entry)) a r (columns (rowsOf (now (xs .exit)) (now (ys .exit)) (now (path .exit)) (now (parent .exit)) (now (kind .exit)) (now (number .exit))) (now (last .exit)) (now (prev .exit))) ⌝ }
+{
+    let s = a.q;
+    store_source(xs, ys, path, parent, kind, number, last, s);
+    let steiner = SteinerNumber(1);
+    let terminal = TerminalNumber(1);
+    let mut k = Counts {
+        nodes: 1,
+        steiner: steiner,
+        terminal: terminal,
+    };
+    let mut i: usize = 0;
+    while i < px.len() {
+        let b = ask_at(px, py, i, a);
+        let r = insert_terminal(
+            xs,
+            ys,
+            path,
+            parent,
+            kind,
+            number,
+            last,
+            prev,
+            k,
+            way,
+            b,
+            ks,
+        );
+        k = r;
+        i = i + 1;
+    }
+    k
+}

@@ -1,0 +1,130 @@
+-- What the code that joins a terminal at a place needs, and what it shows: from a tree that stands in the columns, the tree with the terminal joined.
+use Prim.Native.Nat.{ℕ, _+_, _≤_, _<_}
+use mathlib.Core.Path.{_≡_, sym, subst}
+use mathlib.Core.List.{List}
+use native.Mathlib.Omega.{arith}
+use lib.ListN.{length, getD}
+use Rattle.tree.specs.Limits.{mostNodes, noNode}
+use Rattle.geometry.specs.declared.Point.{Point}
+use Rattle.tree.specs.Tree.{Tree, at, terminal}
+use Rattle.tree.specs.Route.{joined}
+use Rattle.tree.specs.WellFormed.{newNodes}
+use Rattle.tree.proofs.Linking.{child-in, parent-in}
+use Rattle.search.specs.declared.Join.{Join}
+use Rattle.search.specs.declared.Join.the-variants.{Onto, Split}
+use Rattle.search.specs.Search.{nodeIndex}
+use Rattle.search.specs.Columns.{Has, chain, Chain}
+use Rattle.search.specs.Tree.{examined}
+use Rattle.search.specs.Find.{joinOf}
+use Rattle.joining.specs.declared.Counts.{Counts}
+use Rattle.joining.specs.declared.Row.{Row}
+use Rattle.joining.specs.Store.{Columns}
+use Rattle.joining.specs.Join.{ReadsIn, spotIn, terminalRow, pathBelow, oneMore, twoMore, Attachable, RowAttached, Splittable, BranchSplit}
+use Rattle.joining.specs.Standing.{Standing, At, Joined}
+use Rattle.joining.proofs.Agree.{has-child}
+use Rattle.joining.proofs.Reading.{children-are, reads}
+use Rattle.joining.proofs.Growing.{path-below, stores-terminal, sized-terminal, stores-split, sized-split-in}
+
+-- less is asked
+pub weaker : {W W′ : Tree → Type 0} {more less : ℕ} {q : Point} {k : Counts} {c : Columns} (v : Standing W more q k c) → (W (v .tree) → W′ (v .tree)) → less ≤ more → Standing W′ less q k c
+weaker v g h =
+    record {
+      tree = v .tree;
+      formed = v .formed;
+      stores = v .stores;
+      when = g (v .when);
+      sized = v .sized;
+      room = omega (arith, v .room);
+      small = v .small;
+      steiner = v .steiner;
+      within = v .within;
+    }
+
+-- ---- any of them
+module _ {W : Tree → Type 0} {more : ℕ} {q : Point} {k : Counts} {c : Columns} (v : Standing W more q k c) where
+  abbrev m : ℕ
+  m = length (c .rows .xs)
+
+  pub few : length (v .tree .nodes) ≤ mostNodes
+  few = omega (arith, v .stores .size, v .small)
+
+  in-m : (p : ℕ) → p < length (v .tree .nodes) → p < m
+  in-m p h = omega (arith, v .stores .size, v .room)
+
+  pub read : (p : ℕ) → p < length (v .tree .nodes) → ReadsIn (c .rows) p
+  read p h = reads (v .tree) (v .formed) few m c (v .sized) (v .stores .keeps) (omega (arith, v .stores .size, v .room)) p h
+
+  -- the counts with one more terminal fit
+  pub next-counts : 0 < more → (k .nodes < noNode) × (k .terminal .0 < noNode)
+  next-counts h = (omega (arith, v .room, v .sized .few), omega (arith, v .stores .terminal, v .formed .terminals, few))
+
+  pub may-attach : 0 < more → (p : ℕ) → p < length (v .tree .nodes) → Attachable c (k .nodes) p
+  may-attach h p l = record { sized = v .sized; room = omega (arith, v .room); at = in-m p l }
+
+-- ---- at a node
+module _ {j : Join} {q : Point} {k : Counts} {c : Columns} (v₀ : Standing (At j) (newNodes (joinOf j)) q k c) (p : ℕ) (e : j ≡ Onto (nodeIndex p)) where
+  v : Standing (At (Onto (nodeIndex p))) 1 q k c
+  v = subst (λ (x : Join). Standing (At x) (newNodes (joinOf x)) q k c) e v₀
+
+  pub next-onto : (k .nodes < noNode) × (k .terminal .0 < noNode)
+  next-onto = next-counts v (omega arith)
+
+  pub reads-onto : ReadsIn (c .rows) p
+  reads-onto = read v p (v .when)
+
+  module _ (row : Row) (er : row ≡ terminalRow p q (pathBelow (spotIn (c .rows) p) q) (k .terminal .0)) where
+    pub may-onto : Attachable c (k .nodes) (row .parent .0)
+    may-onto = subst (λ (x : Row). Attachable c (k .nodes) (x .parent .0)) (sym er) (may-attach v (omega arith) p (v .when))
+
+    pub did-onto : (c′ : Columns) → RowAttached c (k .nodes) row c′ → (r : Counts) → r ≡ oneMore k → Joined j q k c r c′
+    unfolding joined
+    did-onto c′ o₀ r ek =
+        let o : RowAttached c (k .nodes) (terminalRow p q (pathBelow (spotIn (c .rows) p) q) (k .terminal .0)) c′ = subst (λ (x : Row). RowAttached c (k .nodes) x c′) er o₀ in
+        subst (λ (x : Join). Joined x q k c r c′) (sym e)
+        (subst (λ (x : Counts). Joined (Onto (nodeIndex p)) q k c x c′) (sym ek)
+        (record {
+          stores = λ t f h s. stores-terminal t f k c s _ (v .sized) (omega (arith, v .room)) p h q _ _ (path-below t f k c s _ (v .sized) p h q) c′ o;
+          sized = sized-terminal (v .tree) (v .formed) k c (v .stores) _ (v .sized) (omega (arith, v .room)) p (v .when) q _ _
+              (path-below (v .tree) (v .formed) k c (v .stores) _ (v .sized) p (v .when) q) c′ o;
+        }))
+
+-- ---- on a branch
+module _ {j : Join} {q : Point} {k : Counts} {c : Columns} (v₀ : Standing (At j) (newNodes (joinOf j)) q k c) (p d : ℕ) (e : j ≡ Split (nodeIndex p) (nodeIndex d)) where
+  u : Standing (At (Split (nodeIndex p) (nodeIndex d))) 2 q k c
+  u = subst (λ (x : Join). Standing (At x) (newNodes (joinOf x)) q k c) e v₀
+
+  in-p : p < length (u .tree .nodes)
+  in-p = parent-in (u .formed .linked) d p (u .when)
+
+  in-d : d < length (u .tree .nodes)
+  in-d = child-in (u .formed .linked) d p (u .when)
+
+  kids-p : chain (c .prev) (getD (c .last) p 0) ≡ examined (u .tree .nodes) p
+  kids-p = children-are (u .tree) (u .formed) (few u) _ c (u .sized) (u .stores .keeps) (omega (arith, u .stores .size, u .room)) p in-p
+
+  pub may-split : Splittable c k p d q
+  may-split =
+      record {
+        rows = record { sized = u .sized .rows; room = omega (arith, u .room); few = u .sized .few; at = read u p in-p; to = read u d in-d; within = u .within };
+        links = record {
+          few = omega (arith, u .sized .prev, u .sized .few);
+          in-p = omega (arith, u .sized .last, in-m u p in-p);
+          in-c = omega (arith, u .sized .prev, in-m u d in-d);
+          in-i = (omega (arith, u .sized .last, u .room), omega (arith, u .sized .prev, u .room));
+          in-s = (omega (arith, u .sized .last, u .room), omega (arith, u .sized .prev, u .room));
+          linked = record { is = subst (λ (l : List ℕ). Chain (c .prev) (getD (c .last) p 0) l) (sym kids-p) (u .stores .keeps .chains p in-p) };
+          has = subst (Has d) (sym kids-p) (has-child (u .tree .nodes) (u .formed .linked) p d (u .when));
+        };
+      }
+
+  pub next-split : (k .nodes + 1 < noNode) × ((k .steiner .0 < noNode) × (k .terminal .0 < noNode))
+  next-split = (omega (arith, u .room, u .sized .few), (u .steiner, next-counts u (omega arith) .1))
+
+  pub did-split : (c′ : Columns) → BranchSplit c k p d q c′ → (r : Counts) → r ≡ twoMore k → Joined j q k c r c′
+  did-split c′ o r ek =
+      subst (λ (x : Join). Joined x q k c r c′) (sym e)
+      (subst (λ (x : Counts). Joined (Split (nodeIndex p) (nodeIndex d)) q k c x c′) (sym ek)
+      (record {
+        stores = λ t f h s. stores-split t f k c s _ (u .sized) (omega (arith, u .room)) p d h q c′ o;
+        sized = sized-split-in (u .tree) (u .formed) k c (u .stores) _ (u .sized) (omega (arith, u .room)) p d (u .when) q c′ o;
+      }))
