@@ -11,12 +11,14 @@ use Rattle.tree.specs.Limits.{reach}
 use Rattle.tree.specs.Tree.{Tree}
 use Rattle.job.specs.Job as J
 use Rattle.job.specs.Job.{Job, outside, readJob}
+use Rattle.route.specs.Demand3.{Owed}
+use Rattle.route.proofs.Owed.{demand3}
 use Rattle.route.specs.Routing.{Routing, refused, routed, treeFor, routingOf, routeOf}
 use Rattle.global_router.specs.declared.GlobalRoutingTree.{GlobalRoutingTree}
 use Rattle.global_router.specs.declared.Answer.the-variants.{Refused, Done}
 use Rattle.global_router.specs.declared.Outcome.{Outcome}
 use Rattle.global_router.specs.Stored.{treeOf, Stored}
-use Rattle.global_router.specs.Calls.{Outcomes, begun, newOf}
+use Rattle.global_router.specs.Calls.{Outcomes, answerOf, begun, newOf}
 
 pub origin-near : (p : Point) → p ≡ origin → Within reach p
 origin-near p e = subst (Within reach) (sym e) (record { xcoord = omega arith; ycoord = omega arith })
@@ -55,3 +57,7 @@ module _ (bytes : List ℕ) {r : Outcome} where
   pub route-given : {j : Job} → readJob bytes ≡ J.accepted j → Outcomes (routed (treeFor j)) r → Outcomes (routeOf bytes) r
   unfolding routeOf
   route-given e o = as-answer (ap routingOf e) o
+
+  -- the answer, with what demand 3 owes of it
+  pub with-owed : Outcomes (routeOf bytes) r → Outcomes (routeOf bytes) r × Owed bytes (answerOf (r .answer) (treeOf (r .tree)))
+  with-owed o = (o, subst (Owed bytes) (sym (o .is)) (demand3 bytes))

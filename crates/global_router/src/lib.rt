@@ -1,4 +1,4 @@
-// The public crate: a routing tree with private fields, and the calls that make it, change it and read it.
+// The public crate: a routing tree with private fields, and the calls that make one.
 use geometry::Point;
 use job::ReadAnswer;
 use job::RoutingJob;
@@ -18,7 +18,7 @@ ghost use Rattle.route.specs.Plan.{tableTree};
 ghost use Rattle.route.specs.Routing.{refused, treeFor, routeOf};
 ghost use Rattle.route.specs.Demand3.{Owed};
 ghost use Rattle.global_router.specs.Stored.{treeOf, Stored};
-ghost use Rattle.global_router.specs.Calls.{Tabled, Outcomes, newOf, Sound, begun};
+ghost use Rattle.global_router.specs.Calls.{Tabled, Outcomes, answerOf, newOf, Sound, begun};
 
 // Children are links: `last` has a node's last child, `prev` the sibling before a node.
 pub struct GlobalRoutingTree {
@@ -168,7 +168,7 @@ impl GlobalRoutingTree {
 // The tree of a job. Refusals: 1 to 6, of the job's bytes.
 pub fn route(bytes: &[u8]) -> Outcome
     ensures is { λ r. ⌜ Outcomes (routeOf (now (bytes .entry))) r ⌝ }
-    ensures owed { λ r. ⌜ Owed (now (bytes .entry)) (routeOf (now (bytes .entry))) ⌝ }
+    ensures owed { λ r. ⌜ Owed (now (bytes .entry)) (answerOf (r .answer) (treeOf (r .tree))) ⌝ }
 {
     let reading = job::read_job(bytes);
     let answer = reading.answer;

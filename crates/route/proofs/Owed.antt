@@ -3,12 +3,13 @@ use mathlib.Core.Path.{_≡_, refl, sym, ap, subst, _∙_}
 use mathlib.Core.List.{List}
 use Prim.Native.Nat.{ℕ}
 use lib.Ieee.{Float}
+use lib.IntN.{ℤ}
 use Rattle.allowance.specs.Allowance.{allowedOf}
 use Rattle.tree.specs.Tree.{Tree}
 use Rattle.tree.specs.Route as T
-use Rattle.tree.specs.Shape.{Meets}
+use Rattle.tree.specs.Shape.{Meets, Bounded}
 use Rattle.tree.proofs.Alike.{route-alike}
-use Rattle.tree.proofs.Routing.{route-meets}
+use Rattle.tree.proofs.Routing.{same-limits, route-meets}
 use Rattle.job.specs.declared.Mode.{Mode}
 use Rattle.job.specs.declared.Mode.the-variants.{Constraints}
 use Rattle.job.specs.Job as J
@@ -16,7 +17,7 @@ use Rattle.job.specs.Job.{Job, readJob}
 use Rattle.job.specs.Alike.{AlikeButOrder, SameJobs, SameReading}
 use Rattle.job.proofs.Alike.{read-alike}
 use Rattle.route.specs.Routing.{Routing, refused, routed, wayOf, treeFor, routingOf, routeOf}
-use Rattle.route.specs.Demand3.{Constrained, Owed, Demand3}
+use Rattle.route.specs.Demand3.{farthestOf, allowanceOf, Constrained, Owed, Demand3}
 
 -- ---- order
 same-tree : (j k : Job) → SameJobs j k → treeFor j ≡ treeFor k
@@ -35,16 +36,21 @@ module _ (j : Job) (m : Float) where
   abbrev tree : Tree
   tree = T.route (T.constraints (λ w. allowedOf w m)) (j .source) (j .terminals) (j .keepouts)
 
+  figures : (tree .allowed ≡ allowanceOf j m) × (tree .limit ≡ farthestOf j) × (tree .farthest ≡ farthestOf j)
+  figures = same-limits (j .source) (j .keepouts) (T.sort (j .source) (j .terminals)) (T.rooted (j .source) (allowanceOf j m) (farthestOf j) (farthestOf j))
+
   constrained-meets : Meets (j .source) (j .terminals) tree → Constrained j m tree
   constrained-meets v =
+      let bounded : Bounded (j .source) (allowanceOf j m) (farthestOf j) (tree .nodes) = subst (λ (a : ℤ). Bounded (j .source) a (farthestOf j) (tree .nodes)) (figures .0) (v .ceilings) in
       record {
         exact = refl;
         by-number = v .by-number;
         as-often = v .as-often;
         to-source = v .to-source;
         path-sums = v .path-sums;
-        within = λ i k l e. v .ceilings i k l e .inside;
-        beyond = λ i k l e. v .ceilings i k l e .outside;
+        carries = (figures .0, figures .2, figures .1);
+        within = λ i k l e. bounded i k l e .inside;
+        beyond = λ i k l e. bounded i k l e .outside;
         total-low = v .total-low;
       }
 

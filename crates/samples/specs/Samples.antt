@@ -2,7 +2,7 @@
 use mathlib.Core.Path.{_≡_}
 use mathlib.Core.List.{List, [], _∷_, map}
 use Prim.Native.Nat.{ℕ}
-use lib.IntN.{ℤ, pos, negsuc}
+use lib.IntN.{ℤ, pos, negℤ}
 use lib.Ieee.{binary64, ofBits}
 use Rattle.geometry.specs.declared.Point.{Point}
 use Rattle.geometry.specs.declared.Rectangle.{Rectangle}
@@ -29,9 +29,8 @@ pub record Sample : Type 0 where
 abbrev pt : ℤ → ℤ → Point
 pt x y = record { xcoord = x; ycoord = y }
 
--- minus n, for n from 1
 abbrev minus : ℕ → ℤ
-minus n = lib.IntN.negℤ (pos n)
+minus n = negℤ (pos n)
 
 -- allowed at W, by the multiplier's 64 bits
 abbrev allowedAt : ℕ → ℕ → Figure

@@ -152,7 +152,7 @@ module _ (s : Point) (ks : List Rectangle) where
       ∙ ap (λ (l : List (ℕ × Point)). l ++ numbered (suc (t .nextTerminal)) qs) (terminals-joined (t .nodes) (t .nextSteiner) (t .nextTerminal) q (place t q))
       ∙ append-assoc (terminals (t .nodes)) _ _
 
-  same-limits : (qs : List Point) (t : Tree) → (inserts (insert ks) qs t .allowed ≡ t .allowed) × (inserts (insert ks) qs t .limit ≡ t .limit) × (inserts (insert ks) qs t .farthest ≡ t .farthest)
+  pub same-limits : (qs : List Point) (t : Tree) → (inserts (insert ks) qs t .allowed ≡ t .allowed) × (inserts (insert ks) qs t .limit ≡ t .limit) × (inserts (insert ks) qs t .farthest ≡ t .farthest)
   unfolding inserts insert
   same-limits [] t = (refl, refl, refl)
   same-limits (q ∷ qs) t = same-limits qs (insert ks t q)
@@ -236,7 +236,7 @@ closest-in ns q h (suc k) l = by (ltb (dist (nodeAt ns k .point) q) (dist (nodeA
     by true ih = omega arith
     by false ih = ih
 
--- it is a nearest node, and every one before it is farther
+-- it is a nearest node
 pub closest-least : (ns : List Node) (q : Point) (k j : ℕ) → j < k → dist (nodeAt ns (closest ns q k) .point) q ≤ dist (nodeAt ns j .point) q
 unfolding closest
 closest-least ns q zero j h = absurd (omega arith)
@@ -250,6 +250,17 @@ closest-least ns q (suc k) j h = by (ltb (dist (nodeAt ns k .point) q) (dist (no
     by false e (no l) ih =
         let z : k ≡ j = omega arith in
         omega (arith, ap (λ (x : ℕ). dist (nodeAt ns x .point) q) z, ltb-false (dist (nodeAt ns k .point) q) (dist (nodeAt ns (closest ns q k) .point) q) e)
+
+-- and every one before it is farther
+pub closest-first : (ns : List Node) (q : Point) (k j : ℕ) → j < closest ns q k → dist (nodeAt ns (closest ns q k) .point) q < dist (nodeAt ns j .point) q
+unfolding closest
+closest-first ns q zero j h = absurd (omega arith)
+closest-first ns q (suc k) j h = by (ltb (dist (nodeAt ns k .point) q) (dist (nodeAt ns (closest ns q k) .point) q)) refl (closest-first ns q k j) h
+  where
+    by : (t : Bool) → ltb (dist (nodeAt ns k .point) q) (dist (nodeAt ns (closest ns q k) .point) q) ≡ t → (j < closest ns q k → dist (nodeAt ns (closest ns q k) .point) q < dist (nodeAt ns j .point) q) → j < cond t k (closest ns q k)
+        → dist (nodeAt ns (cond t k (closest ns q k)) .point) q < dist (nodeAt ns j .point) q
+    by true e ih l = omega (arith, closest-least ns q k j l, ltb-true (dist (nodeAt ns k .point) q) (dist (nodeAt ns (closest ns q k) .point) q) e)
+    by false e ih l = ih l
 
 pub record Planned (t : Tree) : Type 0 where
   pub linked : Linked (t .nodes)

@@ -22,7 +22,8 @@ ordered s p q =
     ltb (dist s p) (dist s q)
     || (eqb (dist s p) (dist s q) && (ltZ (p .xcoord) (q .xcoord) || (eqZ (p .xcoord) (q .xcoord) && leZ (p .ycoord) (q .ycoord))))
 
--- p in its place in a sorted list
+-- p in its place in a sorted list. That the sorted list is in order and has each point as often is `sort-sorted` and `times-sort` in
+-- proofs/Order.antt
 unfoldable pub place : Point → Point → List Point → List Point
 place s p [] = p ∷ []
 place s p (q ∷ qs) = cond (ordered s p q) (p ∷ q ∷ qs) (q ∷ place s p qs)
@@ -84,7 +85,7 @@ join t q j =
 unfoldable pub insert : List Rectangle → Tree → Point → Tree
 insert ks t q = join t q (find (blocked ks) (t .nodes) (t .limit) (t .allowed) q)
 
--- "the node of least d, lowest index on ties", among the first k
+-- "the node of least d, lowest index on ties", among the first k (`closest-least`, `closest-first` in proofs/Routing.antt)
 unfoldable pub closest : List Node → Point → ℕ → ℕ
 closest ns q zero = 0
 closest ns q (suc k) =

@@ -1,4 +1,4 @@
--- What every tree that the calls give is: its links agree and lead to the source, its names are distinct; and of a routed one, that path lengths are Manhattan sums.
+-- What every tree that the calls give is: its links agree and lead to the source, its names are distinct; and of one that the search routed, that path lengths are Manhattan sums.
 use mathlib.Core.Path.{_≡_}
 use mathlib.Core.List.{List, [], _∷_}
 use Prim.Native.Nat.{ℕ, zero, suc, _+_, _≤_, _<_}

@@ -1,8 +1,7 @@
 -- `global_router::route`: the reading's answer decides, and demand 3 comes with it.
 use denote.Ref.{now}
 use Rattle.job.proofs.Accepted.{turned-away, taken}
-use Rattle.route.proofs.Owed.{demand3}
-use Rattle.global_router.proofs.Answering.{route-refused, route-given, gives}
+use Rattle.global_router.proofs.Answering.{route-refused, route-given, gives, with-owed}
 use borrow.Author.Needs.{needs}
 use Rattle.global_router.proofs.route.Statement.{statement}
 use Rattle.global_router.proofs.route.Tie as tie
@@ -27,13 +26,13 @@ routed-requires c κs =
 returns : tie.Need-returns
 returns c =
     let b = now (c .before .before .before .before .before .before .args .bytes) in
-    (route-refused b (turned-away b (c .before .before .before .before .read-job .ensures) (c .before .before .answer .given .1)) (c .refused .ensures), demand3 b)
+    with-owed b (route-refused b (turned-away b (c .before .before .before .before .read-job .ensures) (c .before .before .answer .given .1)) (c .refused .ensures))
 
 returns-2 : tie.Need-returns-2
 returns-2 c =
     let b = now (c .before .before .before .before .before .before .args .bytes) in
     let t = taken b (c .before .before .before .before .read-job .ensures) (c .before .before .enum-told .given .1) in
-    (route-given b (t .read) (gives _ _ (c .routed .ensures .0) (c .routed .ensures .1)), demand3 b)
+    with-owed b (route-given b (t .read) (gives _ _ (c .routed .ensures .0) (c .routed .ensures .1)))
 
 pub route-spec : {M : Type 1} → statement M
 route-spec =
