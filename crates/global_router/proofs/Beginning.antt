@@ -18,7 +18,7 @@ use Rattle.tree.specs.Memory.{nodeIn}
 use Rattle.tree.proofs.Measuring.{reaches}
 use Rattle.tree.proofs.Forming.{formed-start}
 use Rattle.search.specs.Columns.{chain, chainOf, Chain, Linked}
-use Rattle.search.specs.Links.{ended}
+use Rattle.search.proofs.Chains.{ended}
 use Rattle.joining.specs.Store.{upTo}
 use Rattle.nodes.specs.Nodes.{blankNode}
 use Rattle.global_router.specs.declared.GlobalRoutingTree.{GlobalRoutingTree}

@@ -6,7 +6,7 @@ use lib.ListN.{length, length-map}
 use Rattle.geometry.specs.declared.Point.{Point}
 use Rattle.geometry.specs.declared.Rectangle.{Rectangle}
 use Rattle.job.specs.Reading.{xcoords, ycoords, flat}
-use Rattle.search.specs.Search.{rectsOf}
+use Rattle.search.specs.Branch.{keepoutsOf}
 use Rattle.sorting.specs.Points.{pt, seg}
 use Rattle.route.specs.Plan.{points}
 
@@ -26,7 +26,7 @@ seg-points (p ∷ ps) = ap (λ (l : List Point). p ∷ l) (seg-shift (pt (xcoord
 pub points-are : (ps : List Point) → points (xcoords ps) (ycoords ps) ≡ ps
 points-are ps = ap (seg (pt (xcoords ps) (ycoords ps)) 0) (coords-length ps) ∙ seg-points ps
 
-pub keepouts-are : (ks : List Rectangle) → rectsOf (flat ks) ≡ ks
-unfolding rectsOf flat
+pub keepouts-are : (ks : List Rectangle) → keepoutsOf (flat ks) ≡ ks
+unfolding keepoutsOf flat
 keepouts-are [] = refl
 keepouts-are (k ∷ ks) = ap (λ (l : List Rectangle). k ∷ l) (keepouts-are ks)

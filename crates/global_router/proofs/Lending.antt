@@ -18,7 +18,7 @@ use Rattle.job.specs.Reading.{filled, xcoords, ycoords, flat, packed, unpacked}
 use Rattle.job.proofs.Packing.{filled-length, flat-length, xs-back, ys-back, flat-back}
 use Rattle.job.specs.Accepted.{AcceptedInMemory}
 use Rattle.job.proofs.Accepted.{in-memory}
-use Rattle.search.specs.Search.{rectsOf}
+use Rattle.search.specs.Branch.{keepoutsOf}
 use Rattle.sorting.specs.Points.{pt, Even}
 use Rattle.joining.specs.Store.{nodeOf}
 use Rattle.joining.proofs.Reading.{length-upto}
@@ -91,8 +91,8 @@ module _ (j : RoutingJob) (v : Sound j) where
   ys-are : py ≡ ycoords ts
   ys-are = (λ i. take (v .packing i .«terminal_count») (v .packing i .«terminal_ys»)) ∙ ys-back J
 
-  ks-are : rectsOf ks ≡ J .keepouts
-  ks-are = ap rectsOf ((λ i. take (4 * v .packing i .«keepout_count») (v .packing i .keepouts)) ∙ flat-back J) ∙ keepouts-are (J .keepouts)
+  ks-are : keepoutsOf ks ≡ J .keepouts
+  ks-are = ap keepoutsOf ((λ i. take (4 * v .packing i .«keepout_count») (v .packing i .keepouts)) ∙ flat-back J) ∙ keepouts-are (J .keepouts)
 
   in-columns : AcceptedInMemory j
   in-columns = subst AcceptedInMemory (sym (v .packing)) (in-memory J (v .accepted))

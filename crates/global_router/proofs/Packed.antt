@@ -70,7 +70,7 @@ module _ (t : Table) (v : Tabled t) (n : ℕ) (is-n : n ≡ t .counts .nodes) (n
   chains p h =
       let l : p < length (tableTree t .nodes) = omega (arith, size) in
       record {
-        is = subst (Chain (t .prev) (getD (t .last) p 0)) (sym (children-are (tableTree t) (v .formed) few mostNodes (tableColumns t) (v .sized) (v .keeps) few p l)) (v .keeps .chains p l);
+        is = subst (Chain (t .prev) (getD (t .last) p 0)) (sym (children-are (tableTree t) (v .formed) few mostNodes (tableColumns t) (v .sized) (v .keeps) few p l)) (v .keeps .children p l);
       }
 
   packed-stored : Stored (memory t nodes (t .allowed))

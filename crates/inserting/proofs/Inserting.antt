@@ -5,9 +5,9 @@ use mathlib.Core.List.{List, []}
 use native.Mathlib.Omega.{arith}
 use lib.ListN.{length}
 use lib.IntN.{ℤ}
-use Rattle.tree.specs.Limits.{mostNodes, reach}
 use Rattle.geometry.specs.declared.Point.{Point}
 use Rattle.geometry.specs.Laws.{Within}
+use Rattle.tree.specs.Limits.{mostNodes, reach}
 use Rattle.tree.specs.Tree.{Node, Tree, terminal}
 use Rattle.tree.specs.Search as T
 use Rattle.tree.specs.Route.{newNode, closest, insertSimple, insert}
@@ -16,21 +16,20 @@ use Rattle.tree.specs.WellFormed.{WellFormed, Fits, newNodes}
 use Rattle.tree.proofs.Routing.{closest-in}
 use Rattle.tree.proofs.Fitting.{find-fits}
 use Rattle.tree.proofs.Forming.{attached}
-use Rattle.search.specs.declared.Ask.{Ask}
+use Rattle.search.specs.declared.Query.{Query}
 use Rattle.search.specs.declared.Join.{Join}
-use Rattle.search.specs.Search.{rectsOf}
-use Rattle.search.specs.Find.{joinOf, find-is}
-use Rattle.search.specs.Whole.{Ready, Joins}
+use Rattle.search.specs.Branch.{keepoutsOf}
+use Rattle.search.specs.Find.{joinOf, Ready, Joins}
 use Rattle.joining.specs.declared.Counts.{Counts}
-use Rattle.inserting.specs.declared.Way.{Way}
-use Rattle.inserting.specs.declared.Way.the-variants.{Simple, Search}
 use Rattle.joining.specs.Store.{Columns}
 use Rattle.joining.specs.Join.{terminalRow, oneMore, Attachable, RowAttached}
 use Rattle.joining.specs.Standing.{Stores, Standing, Anything, At, Joined}
-use Rattle.inserting.specs.Insert.{Points, NearColumns, ClosestOf, InsertedSimple, Asks, Inserted}
 use Rattle.joining.proofs.Reading.{walks, kept}
 use Rattle.joining.proofs.Placing.{weaker, few, may-attach}
 use Rattle.joining.proofs.Growing.{stores-terminal, sized-terminal}
+use Rattle.inserting.specs.declared.Way.{Way}
+use Rattle.inserting.specs.declared.Way.the-variants.{Simple, Search}
+use Rattle.inserting.specs.Insert.{Points, NearColumns, ClosestOf, InsertedSimple, QueryOf, Inserted}
 
 -- ---- at the closest node
 points-of : {t : Tree} {k : Counts} {c : Columns} → Stores t k c → Points (t .nodes) (k .nodes) (c .rows .xs) (c .rows .ys)
@@ -69,11 +68,11 @@ module _ {q : Point} {k : Counts} {c : Columns} (v : Standing Anything 1 q k c) 
         })
 
 -- ---- by the search
-module _ {k : Counts} {c : Columns} (a : Ask) (v : Standing (Asks a) 2 (a .q) k c) where
-  pub by-simple : Standing Anything 1 (a .q) k c
+module _ {k : Counts} {c : Columns} (a : Query) (v : Standing (QueryOf a) 2 (a .point) k c) where
+  pub by-simple : Standing Anything 1 (a .point) k c
   by-simple = weaker v (λ h. tt) (omega arith)
 
-  pub did-by-simple : (way : Way) → way ≡ Simple → (ks : List ℤ) (r : Counts) (c′ : Columns) → InsertedSimple (a .q) k c r c′ → Inserted way ks a k c r c′
+  pub did-by-simple : (way : Way) → way ≡ Simple → (ks : List ℤ) (r : Counts) (c′ : Columns) → InsertedSimple (a .point) k c r c′ → Inserted way ks a k c r c′
   did-by-simple way e ks r c′ o = subst (λ (x : Way). Inserted x ks a k c r c′) (sym e) (record { stores = λ t f h s. o .stores t f tt s; sized = o .sized })
 
   module _ (w : ℕ) (ew : w ≡ k .nodes) where
@@ -85,32 +84,31 @@ module _ {k : Counts} {c : Columns} (a : Ask) (v : Standing (Asks a) 2 (a .q) k 
           small = omega (arith, v .small);
           kept = kept (v .tree) (v .formed) (few v) _ c (v .sized) (v .stores .keeps) (omega (arith, v .stores .size, v .room));
           tree = walks (v .tree) (v .formed) (few v);
-          q = v .within;
+          within = v .within;
         }
 
     module _ (ks : List ℤ) (j : Join) (joins : Joins w a (c .rows .xs) (c .rows .ys) (c .rows .path) (c .last) (c .prev) ks j) where
-      found-is : (t : Tree) → WellFormed t → Asks a t → Stores t k c → T.find (T.blocked (rectsOf ks)) (t .nodes) (t .limit) (t .allowed) (a .q) ≡ joinOf j
-      found-is t f asks s =
+      found-is : (t : Tree) → WellFormed t → QueryOf a t → Stores t k c → T.find (T.blocked (keepoutsOf ks)) (t .nodes) (t .limit) (t .allowed) (a .point) ≡ joinOf j
+      found-is t f query s =
           let small : length (t .nodes) ≤ mostNodes = omega (arith, s .size, v .small) in
-          (λ i. T.find (T.blocked (rectsOf ks)) (t .nodes) (asks .limit i) (asks .allowed i) (a .q))
-          ∙ find-is (rectsOf ks) (t .nodes) a
-          ∙ ap joinOf (sym (joins (t .nodes) (s .size ∙ sym ew) (walks t f small) (kept t f small _ c (v .sized) (s .keeps) (omega (arith, s .size, v .room)))))
+          (λ i. T.find (T.blocked (keepoutsOf ks)) (t .nodes) (query .limit i) (query .allowed i) (a .point))
+          ∙ sym (joins (t .nodes) (s .size ∙ sym ew) (walks t f small) (kept t f small _ c (v .sized) (s .keeps) (omega (arith, s .size, v .room))))
 
-      fits : (t : Tree) → WellFormed t → Asks a t → Stores t k c → At j t
-      fits t f asks s = subst (Fits (t .nodes)) (found-is t f asks s) (find-fits (t .nodes) (f .linked) (T.blocked (rectsOf ks)) (t .limit) (t .allowed) (a .q))
+      fits : (t : Tree) → WellFormed t → QueryOf a t → Stores t k c → At j t
+      fits t f query s = subst (Fits (t .nodes)) (found-is t f query s) (find-fits (t .nodes) (f .linked) (T.blocked (keepoutsOf ks)) (t .limit) (t .allowed) (a .point))
 
-      pub by-search : Standing (At j) (newNodes (joinOf j)) (a .q) k c
+      pub by-search : Standing (At j) (newNodes (joinOf j)) (a .point) k c
       by-search = weaker v (λ h. fits (v .tree) (v .formed) h (v .stores)) (most (joinOf j))
         where
           most : (x : T.Join) → newNodes x ≤ 2
           most (T.onto p) = omega arith
           most (T.split p d) = omega arith
 
-      pub did-search : (way : Way) → way ≡ Search → (r : Counts) (c′ : Columns) → Joined j (a .q) k c r c′ → Inserted way ks a k c r c′
+      pub did-search : (way : Way) → way ≡ Search → (r : Counts) (c′ : Columns) → Joined j (a .point) k c r c′ → Inserted way ks a k c r c′
       unfolding insert
       did-search way e r c′ o =
           subst (λ (x : Way). Inserted x ks a k c r c′) (sym e)
           (record {
-            stores = λ t f h s. subst (λ (x : T.Join). Stores (TR.join t (a .q) x) r c′) (sym (found-is t f h s)) (o .stores t f (fits t f h s) s);
+            stores = λ t f h s. subst (λ (x : T.Join). Stores (TR.join t (a .point) x) r c′) (sym (found-is t f h s)) (o .stores t f (fits t f h s) s);
             sized = o .sized;
           })

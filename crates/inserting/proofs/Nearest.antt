@@ -12,7 +12,7 @@ use Rattle.geometry.specs.declared.Point.{Point}
 use Rattle.geometry.specs.Geometry.{dist}
 use Rattle.tree.specs.Tree.{Node, nodeAt}
 use Rattle.tree.specs.Route.{closest}
-use Rattle.search.specs.Search.{pointAt}
+use Rattle.search.specs.Walk.{pointAt}
 use Rattle.inserting.specs.Insert.{Points, ClosestOf}
 
 -- `best` is the closest of the first i nodes, at distance `least`

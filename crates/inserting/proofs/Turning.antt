@@ -1,41 +1,56 @@
--- The loop over the terminals: its start, a turn, its end.
+-- The loop over the terminals: its start, a turn, its end. The idea: at its head the columns hold the tree of the terminals so far, whatever the farthest distance.
 use Prim.Native.Nat.{ℕ, zero, suc, _+_, _*_, _≤_, _<_}
 use mathlib.Core.Path.{_≡_, refl, ap, sym, subst, _∙_}
 use mathlib.Core.List.{List, [], _∷_, _++_, reverse}
 use native.Mathlib.Omega.{arith}
 use native.Mathlib.Numerals.{add-one}
-use lib.ListN.{length, getD, length-set}
+use lib.ListN.{length, getD, set, length-set}
 use lib.Seq.{getD-set-same}
 use lib.IntN.{ℤ}
-use Rattle.tree.specs.Limits.{noNode, reach}
 use Rattle.geometry.specs.declared.Point.{Point}
 use Rattle.geometry.specs.Laws.{Within}
+use Rattle.tree.specs.Limits.{noNode, reach}
 use Rattle.tree.specs.Tree.{Tree, nodeAt}
 use Rattle.tree.specs.Route.{insert, insertSimple, inserts, rooted}
 use Rattle.tree.specs.WellFormed.{WellFormed, Counted}
 use Rattle.tree.proofs.Forming.{formed-insert, formed-simple, formed-start, counted-insert, counted-simple, counted-start}
-use Rattle.search.specs.declared.Ask.{Ask}
-use Rattle.search.specs.Search.{rectsOf, pointAt}
+use Rattle.search.specs.declared.Query.{Query}
+use Rattle.search.specs.Branch.{keepoutsOf}
+use Rattle.search.specs.Walk.{pointAt}
 use Rattle.search.specs.Columns.{Chain}
 use Rattle.joining.specs.declared.Counts.{Counts}
 use Rattle.joining.specs.declared.Row.{Row}
-use Rattle.inserting.specs.declared.Way.{Way}
-use Rattle.inserting.specs.declared.Way.the-variants.{Simple, Search}
-use Rattle.joining.specs.Store.{Rows, Columns, rowAt, nodeFrom, parentFrom, nodesOf, upTo, Sized, SizedRows, Keeps}
+use Rattle.joining.specs.Store.{setRow, Rows, Columns, rowAt, nodeFrom, parentFrom, nodesOf, upTo, Sized, SizedRows, Keeps}
 use Rattle.joining.specs.Standing.{Standing}
-use Rattle.inserting.specs.Insert.{Asks, Inserted, stepOf}
-use Rattle.inserting.specs.Route.{sourceRow, firsts, treeOf, treeIn, askAt, Routable, Begun, Holds, Under, Routed}
 use Rattle.joining.proofs.Steps.{row-same, sized-row}
 use Rattle.joining.proofs.Reading.{nodes-are}
+use Rattle.inserting.specs.declared.Way.{Way}
+use Rattle.inserting.specs.declared.Way.the-variants.{Simple, Search}
+use Rattle.inserting.specs.Insert.{QueryOf, Inserted, stepOf}
+use Rattle.inserting.specs.Route.{sourceRow, firsts, treeOf, treeIn, queryAt, Routable, Holds, Routed}
+
+-- ---- what holds before the loop, and at its head
+-- the source alone
+pub record Begun (c : Columns) (s : Point) (c′ : Columns) : Type 0 where
+  pub rows : c′ .rows ≡ setRow (c .rows) 0 (sourceRow s)
+  pub last : c′ .last ≡ set (c .last) 0 noNode
+  pub prev : c′ .prev ≡ c .prev
+
+-- i terminals are in
+pub record Under (m : ℕ) (way : Way) (ks px py : List ℤ) (a : Query) (i : ℕ) (k : Counts) (c : Columns) : Type 0 where
+  pub low : i ≤ length px
+  pub next : k .terminal .0 ≡ i + 1
+  pub sized : Sized m c
+  pub holds : (w : ℕ) → Holds a w k c (treeOf way ks px py a w i)
 
 -- ---- one more terminal
 formed-step : (way : Way) (ks : List ℤ) (t : Tree) (q : Point) → WellFormed t → Within reach q → WellFormed (stepOf way ks t q)
 formed-step Simple ks t q f w = formed-simple t f q w
-formed-step Search ks t q f w = formed-insert t f q w (rectsOf ks)
+formed-step Search ks t q f w = formed-insert t f q w (keepoutsOf ks)
 
 counted-step : (way : Way) (ks : List ℤ) (t : Tree) (q : Point) → WellFormed t → Counted t → Counted (stepOf way ks t q)
 counted-step Simple ks t q f n = counted-simple t f n q
-counted-step Search ks t q f n = counted-insert t f n q (rectsOf ks)
+counted-step Search ks t q f n = counted-insert t f n q (keepoutsOf ks)
 
 -- a step gives out a terminal number, and leaves the rest as it is
 record Carried (t t′ : Tree) : Type 0 where
@@ -54,11 +69,11 @@ unfolding inserts
 inserts-snoc g [] q t = refl
 inserts-snoc g (p ∷ qs) q t = inserts-snoc g qs q (g t p)
 
-tree-next : (way : Way) (ks px py : List ℤ) (a : Ask) (w i : ℕ) → treeOf way ks px py a w (i + 1) ≡ stepOf way ks (treeOf way ks px py a w i) (pointAt px py i)
+tree-next : (way : Way) (ks px py : List ℤ) (a : Query) (w i : ℕ) → treeOf way ks px py a w (i + 1) ≡ stepOf way ks (treeOf way ks px py a w i) (pointAt px py i)
 unfolding treeOf upTo
 tree-next way ks px py a w i =
-    ap (λ (n : ℕ). inserts (stepOf way ks) (firsts px py n) (rooted (a .q) (a .allowed) w (a .limit))) (add-one i)
-    ∙ inserts-snoc (stepOf way ks) (firsts px py i) (pointAt px py i) (rooted (a .q) (a .allowed) w (a .limit))
+    ap (λ (n : ℕ). inserts (stepOf way ks) (firsts px py n) (rooted (a .point) (a .allowed) w (a .limit))) (add-one i)
+    ∙ inserts-snoc (stepOf way ks) (firsts px py i) (pointAt px py i) (rooted (a .point) (a .allowed) w (a .limit))
 
 -- ---- the source alone
 module _ (s : Point) (allowed : ℤ) (w limit : ℕ) (m : ℕ) (c c′ : Columns) (z : Sized m c) (room : 0 < m) (b : Begun c s c′) where
@@ -72,15 +87,15 @@ module _ (s : Point) (allowed : ℤ) (w limit : ℕ) (m : ℕ) (c c′ : Columns
   end-start = ap (λ (l : List ℕ). getD l 0 0) (b .last) ∙ getD-set-same (c .last) 0 noNode 0 (omega (arith, z .last))
 
   keeps-start : Keeps (t₀ .nodes) c′
-  keeps-start = record { rows = rows; chains = chains }
+  keeps-start = record { rows = rows; children = children }
     where
       rows : (i : ℕ) → i < 1 → nodeAt (t₀ .nodes) i ≡ nodeFrom (rowAt (c′ .rows) i) (nodeAt (t₀ .nodes) i .children)
       rows zero h = unfold nodeAt parentFrom in ap (λ (r : Row). nodeFrom r []) (sym row-start)
       rows (suc i) h = absurd (omega arith)
 
-      chains : (i : ℕ) → i < 1 → Chain (c′ .prev) (getD (c′ .last) i 0) (reverse (nodeAt (t₀ .nodes) i .children))
-      chains zero h = unfold nodeAt Chain in end-start
-      chains (suc i) h = absurd (omega arith)
+      children : (i : ℕ) → i < 1 → Chain (c′ .prev) (getD (c′ .last) i 0) (reverse (nodeAt (t₀ .nodes) i .children))
+      children zero h = unfold nodeAt Chain in end-start
+      children (suc i) h = absurd (omega arith)
 
   sized-start : Sized m c′
   sized-start =
@@ -92,7 +107,7 @@ module _ (s : Point) (allowed : ℤ) (w limit : ℕ) (m : ℕ) (c c′ : Columns
       }
 
 -- ---- the loop
-module _ (way : Way) (ks px py : List ℤ) (a : Ask) (c₀ : Columns) (v : Routable px py a c₀) where
+module _ (way : Way) (ks px py : List ℤ) (a : Query) (c₀ : Columns) (v : Routable px py a c₀) where
   abbrev m : ℕ
   m = length (c₀ .prev)
 
@@ -102,23 +117,23 @@ module _ (way : Way) (ks px py : List ℤ) (a : Ask) (c₀ : Columns) (v : Routa
   wide-enough : 2 * length px + 1 ≤ m
   wide-enough = omega (arith, v .room, v .sized .prev)
 
-  pub starts : (c : Columns) → Begun c₀ (a .q) c → Under m way ks px py a 0 (record { nodes = 1; steiner = record { 0 = 1 }; terminal = record { 0 = 1 } }) c
+  pub starts : (c : Columns) → Begun c₀ (a .point) c → Under m way ks px py a 0 (record { nodes = 1; steiner = record { 0 = 1 }; terminal = record { 0 = 1 } }) c
   unfolding treeOf upTo inserts
   starts c b =
       record {
         low = omega arith;
         next = refl;
-        sized = sized-start (a .q) (a .allowed) 0 (a .limit) m c₀ c z₀ (omega (arith, wide-enough)) b;
+        sized = sized-start (a .point) (a .allowed) 0 (a .limit) m c₀ c z₀ (omega (arith, wide-enough)) b;
         holds = λ w. record {
-          formed = formed-start (a .q) (v .source) (a .allowed) w (a .limit);
-          counted = counted-start (a .q) (v .source) (a .allowed) w (a .limit);
+          formed = formed-start (a .point) (v .source) (a .allowed) w (a .limit);
+          counted = counted-start (a .point) (v .source) (a .allowed) w (a .limit);
           stores = record {
             size = refl;
             steiner = refl;
             terminal = refl;
-            keeps = keeps-start (a .q) (a .allowed) w (a .limit) m c₀ c z₀ (omega (arith, wide-enough)) b;
+            keeps = keeps-start (a .point) (a .allowed) w (a .limit) m c₀ c z₀ (omega (arith, wide-enough)) b;
           };
-          asks = record { limit = refl; allowed = refl };
+          query = record { limit = refl; allowed = refl };
           farthest = refl;
         };
       }
@@ -144,23 +159,23 @@ module _ (way : Way) (ks px py : List ℤ) (a : Ask) (c₀ : Columns) (v : Routa
             ∙ nodes-are t (h .formed) (omega (arith, h .stores .size, nodes-low, v .few, u .low)) m c (u .sized) (h .stores .keeps) (omega (arith, h .stores .size, nodes-low, u .low, wide-enough)) in
             λ j. record {
               nodes = nodes j;
-              allowed = sym (h .asks .allowed) j;
+              allowed = sym (h .query .allowed) j;
               farthest = sym (h .farthest) j;
-              limit = sym (h .asks .limit) j;
+              limit = sym (h .query .limit) j;
               nextSteiner = sym (h .stores .steiner) j;
               nextTerminal = sym (h .stores .terminal) j;
             }
 
-    module _ (more : i < length px) (b : Ask) (eb : b ≡ askAt px py i a) where
-      pub stands : Standing (Asks b) 2 (b .q) k c
+    module _ (more : i < length px) (b : Query) (eb : b ≡ queryAt px py i a) where
+      pub stands : Standing (QueryOf b) 2 (b .point) k c
       stands =
           let h = u .holds 0 in
-          subst (λ (x : Ask). Standing (Asks x) 2 (x .q) k c) (sym eb)
+          subst (λ (x : Query). Standing (QueryOf x) 2 (x .point) k c) (sym eb)
           (record {
             tree = treeOf way ks px py a 0 i;
             formed = h .formed;
             stores = h .stores;
-            when = record { limit = h .asks .limit; allowed = h .asks .allowed };
+            when = record { limit = h .query .limit; allowed = h .query .allowed };
             sized = subst (λ (n : ℕ). Sized n c) (sym (u .sized .rows .xs)) (u .sized);
             room = omega (arith, nodes-low, wide-enough, u .sized .rows .xs);
             small = omega (arith, nodes-low, v .few);
@@ -170,21 +185,21 @@ module _ (way : Way) (ks px py : List ℤ) (a : Ask) (c₀ : Columns) (v : Routa
 
       pub turn : (r : Counts) (c′ : Columns) → Inserted way ks b k c r c′ → Under m way ks px py a (i + 1) r c′
       turn r c′ o₀ =
-          let o : Inserted way ks (askAt px py i a) k c r c′ = subst (λ (x : Ask). Inserted way ks x k c r c′) eb o₀ in
+          let o : Inserted way ks (queryAt px py i a) k c r c′ = subst (λ (x : Query). Inserted way ks x k c r c′) eb o₀ in
           record {
             low = omega arith;
-            next = omega (arith, o .stores (treeOf way ks px py a 0 i) (u .holds 0 .formed) (record { limit = u .holds 0 .asks .limit; allowed = u .holds 0 .asks .allowed }) (u .holds 0 .stores) .terminal, carried-step way ks (treeOf way ks px py a 0 i) (pointAt px py i) .next, u .holds 0 .stores .terminal, u .next);
+            next = omega (arith, o .stores (treeOf way ks px py a 0 i) (u .holds 0 .formed) (record { limit = u .holds 0 .query .limit; allowed = u .holds 0 .query .allowed }) (u .holds 0 .stores) .terminal, carried-step way ks (treeOf way ks px py a 0 i) (pointAt px py i) .next, u .holds 0 .stores .terminal, u .next);
             sized = subst (λ (n : ℕ). Sized n c′) (u .sized .rows .xs) (o .sized);
             holds = λ w. subst (Holds a w r c′) (sym (tree-next way ks px py a w i)) (after (treeOf way ks px py a w i) w (u .holds w) o);
           }
         where
-          after : (t : Tree) (w : ℕ) → Holds a w k c t → Inserted way ks (askAt px py i a) k c r c′ → Holds a w r c′ (stepOf way ks t (pointAt px py i))
+          after : (t : Tree) (w : ℕ) → Holds a w k c t → Inserted way ks (queryAt px py i a) k c r c′ → Holds a w r c′ (stepOf way ks t (pointAt px py i))
           after t w h o =
               let same = carried-step way ks t (pointAt px py i) in
               record {
                 formed = formed-step way ks t (pointAt px py i) (h .formed) (v .near i more);
                 counted = counted-step way ks t (pointAt px py i) (h .formed) (h .counted);
-                stores = o .stores t (h .formed) (record { limit = h .asks .limit; allowed = h .asks .allowed }) (h .stores);
-                asks = record { limit = same .limit ∙ h .asks .limit; allowed = same .allowed ∙ h .asks .allowed };
+                stores = o .stores t (h .formed) (record { limit = h .query .limit; allowed = h .query .allowed }) (h .stores);
+                query = record { limit = same .limit ∙ h .query .limit; allowed = same .allowed ∙ h .query .allowed };
                 farthest = same .farthest ∙ h .farthest;
               }

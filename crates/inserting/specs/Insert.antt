@@ -4,13 +4,14 @@ use mathlib.Core.Path.{_≡_}
 use mathlib.Core.List.{List}
 use lib.ListN.{length}
 use lib.IntN.{ℤ}
-use Rattle.tree.specs.Limits.{reach}
 use Rattle.geometry.specs.declared.Point.{Point}
 use Rattle.geometry.specs.Laws.{Within}
+use Rattle.tree.specs.Limits.{reach}
 use Rattle.tree.specs.Tree.{Node, Tree, nodeAt}
 use Rattle.tree.specs.Route.{closest, insert, insertSimple}
-use Rattle.search.specs.declared.Ask.{Ask}
-use Rattle.search.specs.Search.{rectsOf, pointAt}
+use Rattle.search.specs.declared.Query.{Query}
+use Rattle.search.specs.Branch.{keepoutsOf}
+use Rattle.search.specs.Walk.{pointAt}
 use Rattle.joining.specs.declared.Counts.{Counts}
 use Rattle.joining.specs.Store.{Columns}
 use Rattle.joining.specs.Standing.{Grows, Anything}
@@ -23,6 +24,7 @@ pub record Points (ns : List Node) (n : ℕ) (xs ys : List ℤ) : Type 0 where
   pub size : length ns ≡ n
   pub points : (i : ℕ) → i < n → pointAt xs ys i ≡ nodeAt ns i .point
 
+-- the points of n nodes, one at least, and q are within the limit
 pub record NearColumns (n : ℕ) (xs ys : List ℤ) (q : Point) : Type 0 where
   pub some : 0 < n
   pub in-xs : n ≤ length xs
@@ -30,24 +32,26 @@ pub record NearColumns (n : ℕ) (xs ys : List ℤ) (q : Point) : Type 0 where
   pub near : (i : ℕ) → i < n → Within reach (pointAt xs ys i)
   pub within : Within reach q
 
--- r is the closest of the first i nodes
+-- r is the closest to q of the first i nodes, whatever nodes the points belong to
 abbrev pub ClosestOf : ℕ → ℕ → List ℤ → List ℤ → Point → ℕ → Type 0
 ClosestOf i n xs ys q r = (ns : List Node) → Points ns n xs ys → r ≡ closest ns q i
 
--- at the closest node
+-- a terminal at q has joined the closest node
+-- the query's point has been inserted
 abbrev pub InsertedSimple : Point → Counts → Columns → Counts → Columns → Type 0
 InsertedSimple q = Grows Anything (λ t. insertSimple t q)
 
 -- ---- either way
--- the search asks for the tree's limit and allowance
-pub record Asks (a : Ask) (t : Tree) : Type 0 where
+-- the query has the tree's limit and allowance
+pub record QueryOf (a : Query) (t : Tree) : Type 0 where
   pub limit : t .limit ≡ a .limit
   pub allowed : t .allowed ≡ a .allowed
 
--- how a terminal is inserted
+-- how a terminal is inserted: mode 0, or modes 1 and 2
 abbrev pub stepOf : Way → List ℤ → Tree → Point → Tree
 stepOf Simple ks = insertSimple
-stepOf Search ks = insert (rectsOf ks)
+stepOf Search ks = insert (keepoutsOf ks)
 
-abbrev pub Inserted : Way → List ℤ → Ask → Counts → Columns → Counts → Columns → Type 0
-Inserted way ks a = Grows (Asks a) (λ t. stepOf way ks t (a .q))
+-- the query's point has been inserted
+abbrev pub Inserted : Way → List ℤ → Query → Counts → Columns → Counts → Columns → Type 0
+Inserted way ks a = Grows (QueryOf a) (λ t. stepOf way ks t (a .point))

@@ -2,23 +2,24 @@
 use Prim.Native.Nat.{ℕ, _+_, _*_, _≤_, _<_}
 use mathlib.Core.Path.{_≡_}
 use mathlib.Core.List.{List}
-use lib.ListN.{length, set}
+use lib.ListN.{length}
 use lib.IntN.{ℤ}
-use Rattle.tree.specs.Limits.{mostTerminals, noNode, reach}
 use Rattle.geometry.specs.declared.Point.{Point}
 use Rattle.geometry.specs.Laws.{Within}
+use Rattle.tree.specs.Limits.{mostTerminals, noNode, reach}
 use Rattle.tree.specs.Tree.{Tree}
 use Rattle.tree.specs.Route.{inserts, rooted}
 use Rattle.tree.specs.WellFormed.{WellFormed, Counted}
-use Rattle.search.specs.declared.Ask.{Ask}
-use Rattle.search.specs.Search.{nodeIndex, pointAt}
+use Rattle.search.specs.declared.Query.{Query}
+use Rattle.search.specs.Walk.{nodeIndex, pointAt}
 use Rattle.joining.specs.declared.Row.{Row}
 use Rattle.joining.specs.declared.Counts.{Counts}
-use Rattle.inserting.specs.declared.Way.{Way}
-use Rattle.joining.specs.Store.{Columns, setRow, Sized, upTo, nodesOf}
+use Rattle.joining.specs.Store.{Columns, Sized, upTo, nodesOf}
 use Rattle.joining.specs.Standing.{Stores}
-use Rattle.inserting.specs.Insert.{Asks, stepOf}
+use Rattle.inserting.specs.declared.Way.{Way}
+use Rattle.inserting.specs.Insert.{QueryOf, stepOf}
 
+-- the row of a source at s: noNode stands for its parent
 abbrev pub sourceRow : Point → Row
 sourceRow s = record { point = s; path = 0; parent = nodeIndex noNode; kind = 0; number = 0 }
 
@@ -27,47 +28,36 @@ abbrev pub firsts : List ℤ → List ℤ → ℕ → List Point
 firsts px py i = upTo (pointAt px py) i
 
 -- the tree of the first i terminals; the search's point stands for the source, and w for the farthest distance, which is carried and not read
-unfoldable pub treeOf : Way → List ℤ → List ℤ → List ℤ → Ask → ℕ → ℕ → Tree
-treeOf way ks px py a w i = inserts (stepOf way ks) (firsts px py i) (rooted (a .q) (a .allowed) w (a .limit))
+unfoldable pub treeOf : Way → List ℤ → List ℤ → List ℤ → Query → ℕ → ℕ → Tree
+treeOf way ks px py a w i = inserts (stepOf way ks) (firsts px py i) (rooted (a .point) (a .allowed) w (a .limit))
 
 -- the tree that the columns and the counts hold
-abbrev pub treeIn : Columns → Counts → Ask → ℕ → Tree
+abbrev pub treeIn : Columns → Counts → Query → ℕ → Tree
 treeIn c k a w = record { nodes = nodesOf c (k .nodes); allowed = a .allowed; farthest = w; limit = a .limit; nextSteiner = k .steiner .0; nextTerminal = k .terminal .0 }
 
-abbrev pub askAt : List ℤ → List ℤ → ℕ → Ask → Ask
-askAt px py i a = record { q = pointAt px py i; limit = a .limit; allowed = a .allowed }
+-- the query for the i-th terminal
+abbrev pub queryAt : List ℤ → List ℤ → ℕ → Query → Query
+queryAt px py i a = record { point = pointAt px py i; limit = a .limit; allowed = a .allowed }
 
-pub record Routable (px py : List ℤ) (a : Ask) (c : Columns) : Type 0 where
+-- what a route asks: terminals within the limit, not too many, and columns with room for two nodes for each
+pub record Routable (px py : List ℤ) (a : Query) (c : Columns) : Type 0 where
   pub sized : Sized (length (c .rows .xs)) c
   pub room : 2 * length px + 1 ≤ length (c .rows .xs)
   pub few : length px ≤ mostTerminals
   pub both : length py ≡ length px
-  pub source : Within reach (a .q)
+  pub source : Within reach (a .point)
   pub near : (i : ℕ) → i < length px → Within reach (pointAt px py i)
 
--- the source alone
-pub record Begun (c : Columns) (s : Point) (c′ : Columns) : Type 0 where
-  pub rows : c′ .rows ≡ setRow (c .rows) 0 (sourceRow s)
-  pub last : c′ .last ≡ set (c .last) 0 noNode
-  pub prev : c′ .prev ≡ c .prev
-
--- a route's tree in columns
-pub record Holds (a : Ask) (w : ℕ) (k : Counts) (c : Columns) (t : Tree) : Type 0 where
+-- a route has the tree t in the columns; a is its query, and w the farthest distance
+pub record Holds (a : Query) (w : ℕ) (k : Counts) (c : Columns) (t : Tree) : Type 0 where
   pub formed : WellFormed t
   pub counted : Counted t
   pub stores : Stores t k c
-  pub asks : Asks a t
+  pub query : QueryOf a t
   pub farthest : t .farthest ≡ w
 
--- i terminals are in
-pub record Under (m : ℕ) (way : Way) (ks px py : List ℤ) (a : Ask) (i : ℕ) (k : Counts) (c : Columns) : Type 0 where
-  pub low : i ≤ length px
-  pub next : k .terminal .0 ≡ i + 1
-  pub sized : Sized m c
-  pub holds : (w : ℕ) → Holds a w k c (treeOf way ks px py a w i)
-
 -- all terminals are in: the columns and counts give the whole tree, which is well formed
-pub record Routed (way : Way) (ks px py : List ℤ) (a : Ask) (k : Counts) (c : Columns) : Type 0 where
+pub record Routed (way : Way) (ks px py : List ℤ) (a : Query) (k : Counts) (c : Columns) : Type 0 where
   pub tree : (w : ℕ) → treeIn c k a w ≡ treeOf way ks px py a w (length px)
   pub holds : (w : ℕ) → Holds a w k c (treeOf way ks px py a w (length px))
   pub next : k .terminal .0 ≡ length px + 1

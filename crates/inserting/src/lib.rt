@@ -2,7 +2,7 @@
 use geometry::Point;
 use joining::Counts;
 use joining::Row;
-use search::Ask;
+use search::Query;
 use tree::NodeIndex;
 use tree::SteinerNumber;
 use tree::TerminalNumber;
@@ -12,8 +12,8 @@ ghost use lib.ListN.{length, set};
 ghost use Rattle.tree.specs.Limits.{noNode};
 ghost use Rattle.joining.specs.Store.{rowsOf, columns, setRow, SizedRows};
 ghost use Rattle.joining.specs.Standing.{Standing, Anything};
-ghost use Rattle.inserting.specs.Insert.{NearColumns, ClosestOf, InsertedSimple, Asks, Inserted};
-ghost use Rattle.inserting.specs.Route.{sourceRow, askAt, Routable, Routed};
+ghost use Rattle.inserting.specs.Insert.{NearColumns, ClosestOf, InsertedSimple, QueryOf, Inserted};
+ghost use Rattle.inserting.specs.Route.{sourceRow, queryAt, Routable, Routed};
 
 // How a terminal finds its place: at the closest node, or by the search.
 pub enum Way {
@@ -66,7 +66,7 @@ pub fn insert_simple(
         point: q,
         path: 0,
         parent: p,
-        kind: 2,
+        kind: tree::TERMINAL,
         number: k.terminal.0,
     };
     let n = NodeIndex(k.nodes);
@@ -86,18 +86,18 @@ pub fn insert_terminal(
     prev: &mut [u16],
     k: Counts,
     way: Way,
-    ask: Ask,
+    query: Query,
     ks: &[i32],
 ) -> Counts
-    requires { ⌜ Standing (Asks ask) 2 (ask .q) k (columns (rowsOf (now xs) (now ys) (now path) (now parent) (now kind) (now number)) (now last) (now prev)) ⌝ }
-    ensures { λ r. ⌜ Inserted way (now (ks .entry)) ask k (columns (rowsOf (now (xs .entry)) (now (ys .entry)) (now (path .entry)) (now (parent .entry)) (now (kind .entry)) (now (number .entry))) (now (last .entry)) (now (prev .entry))) r (columns (rowsOf (now (xs .exit)) (now (ys .exit)) (now (path .exit)) (now (parent .exit)) (now (kind .exit)) (now (number .exit))) (now (last .exit)) (now (prev .exit))) ⌝ }
+    requires { ⌜ Standing (QueryOf query) 2 (query .point) k (columns (rowsOf (now xs) (now ys) (now path) (now parent) (now kind) (now number)) (now last) (now prev)) ⌝ }
+    ensures { λ r. ⌜ Inserted way (now (ks .entry)) query k (columns (rowsOf (now (xs .entry)) (now (ys .entry)) (now (path .entry)) (now (parent .entry)) (now (kind .entry)) (now (number .entry))) (now (last .entry)) (now (prev .entry))) r (columns (rowsOf (now (xs .exit)) (now (ys .exit)) (now (path .exit)) (now (parent .exit)) (now (kind .exit)) (now (number .exit))) (now (last .exit)) (now (prev .exit))) ⌝ }
 {
-    let q = ask.q;
+    let q = query.point;
     match way {
         Way::Simple => insert_simple(xs, ys, path, parent, kind, number, last, prev, k, q),
         Way::Search => {
             let n = search::wide(k.nodes);
-            let j = search::join_of(n, ask, xs, ys, path, last, prev, ks);
+            let j = search::find_insertion_point(n, query, xs, ys, path, last, prev, ks);
             joining::join(xs, ys, path, parent, kind, number, last, prev, k, q, j)
         }
     }
@@ -126,7 +126,7 @@ fn store_source(
         point: s,
         path: 0,
         parent: none,
-        kind: 0,
+        kind: tree::SOURCE,
         number: 0,
     };
     joining::store_row(xs, ys, path, parent, kind, number, source, row);
@@ -134,13 +134,13 @@ fn store_source(
 }
 
 // The search's question for the i-th terminal.
-fn ask_at<'a>(px: &'a [i32], py: &'a [i32], i: usize, a: Ask) -> Ask
+fn query_at<'a>(px: &'a [i32], py: &'a [i32], i: usize, a: Query) -> Query
     requires { ⌜ (i < length (now px)) × (i < length (now py)) ⌝ }
-    ensures { λ r. ⌜ r ≡ askAt (now (px .entry)) (now (py .entry)) i a ⌝ }
+    ensures { λ r. ⌜ r ≡ queryAt (now (px .entry)) (now (py .entry)) i a ⌝ }
 {
     let q = search::point_at(px, py, i);
-    Ask {
-        q: q,
+    Query {
+        point: q,
         limit: a.limit,
         allowed: a.allowed,
     }
@@ -160,12 +160,12 @@ pub fn route_sorted<'a>(
     py: &'a [i32],
     ks: &'a [i32],
     way: Way,
-    a: Ask,
+    a: Query,
 ) -> Counts
     requires { ⌜ Routable (now px) (now py) a (columns (rowsOf (now xs) (now ys) (now path) (now parent) (now kind) (now number)) (now last) (now prev)) ⌝ }
     ensures { λ r. ⌜ Routed way (now (ks .entry)) (now (px .entry)) (now (py .entry)) a r (columns (rowsOf (now (xs .exit)) (now (ys .exit)) (now (path .exit)) (now (parent .exit)) (now (kind .exit)) (now (number .exit))) (now (last .exit)) (now (prev .exit))) ⌝ }
 {
-    let s = a.q;
+    let s = a.point;
     store_source(xs, ys, path, parent, kind, number, last, s);
     let steiner = SteinerNumber(1);
     let terminal = TerminalNumber(1);
@@ -176,7 +176,7 @@ pub fn route_sorted<'a>(
     };
     let mut i: usize = 0;
     while i < px.len() {
-        let b = ask_at(px, py, i, a);
+        let b = query_at(px, py, i, a);
         let r = insert_terminal(
             xs,
             ys,

@@ -1,5 +1,5 @@
 -- A tree whose links agree is one that the search can walk: lists of children as counts, and as members.
-use Prim.Native.Nat.{ℕ, _≤_, _<_}
+use Prim.Native.Nat.{ℕ, zero, suc, _≤_, _<_}
 use mathlib.Core.Path.{_≡_, refl, ap, sym, _∙_}
 use mathlib.Core.Logic.{_⊎_, inl, inr, ⊎-elim}
 use mathlib.Core.Bool.{Bool, true, false}
@@ -15,12 +15,9 @@ use Rattle.tree.proofs.Linking.{one-eq, count-snoc, child-in, counted, none-at,
 use Rattle.tree.proofs.Measuring.{at-inj}
 use Rattle.tree.proofs.Searching.{own}
 use Rattle.tree.proofs.Spread.{Spread}
-use Rattle.search.specs.Columns.{Has}
-use Rattle.search.specs.Moves.{Distinct}
-use Rattle.search.specs.Once.{away-of}
-use Rattle.search.specs.Forest.{Forest}
-use Rattle.search.specs.Tree.{examined}
-use Rattle.search.specs.Whole as W
+use Rattle.search.specs.Columns.{Has, Distinct}
+use Rattle.search.specs.Find.{Forest, examined, Walkable}
+use Rattle.search.proofs.Distinct.{away-of}
 
 pub count-reverse : (c : ℕ) (l : List ℕ) → count c (reverse l) ≡ count c l
 unfolding count
@@ -40,6 +37,13 @@ count-has c (x ∷ l) h = by (eqb x c) refl (count-has c l)
     by : (t : Bool) → eqb x c ≡ t → (0 < count c l → Has c l) → (x ≡ c) ⊎ Has c l
     by true e f = inl (eqb-true x c e)
     by false e f = inr (f (omega (arith, ap one e)))
+
+pub count-none : (c : ℕ) (l : List ℕ) → (Has c (reverse l) → ⊥) → count c l ≡ 0
+count-none c l f = by (count c l) (λ t. f (count-has c (reverse l) (omega (arith, count-reverse c l))))
+  where
+    by : (a : ℕ) → (0 < a → ⊥) → a ≡ 0
+    by zero g = refl
+    by (suc a) g = absurd (g (omega arith))
 
 pub distinct-of : (l : List ℕ) → ((x : ℕ) → count x l ≤ 1) → Distinct l
 unfolding Distinct count
@@ -79,5 +83,5 @@ module _ (ns : List Node) (g : Linked ns) where
         one = λ p q c h k z w. at-inj (sym (child-of p c z) ∙ child-of q c w);
       }
 
-  pub walkable : Spread reach ns → ((i : ℕ) → nodeAt ns i .path ≤ longestPath) → W.Tree ns
+  pub walkable : Spread reach ns → ((i : ℕ) → nodeAt ns i .path ≤ longestPath) → Walkable ns
   walkable near long = record { forest = forest; near = λ i h. near i; long = λ i h. long i }

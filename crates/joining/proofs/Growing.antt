@@ -16,12 +16,12 @@ use Rattle.tree.proofs.Forming.{attached}
 use Rattle.joining.specs.declared.Counts.{Counts}
 use Rattle.joining.specs.declared.Row.{Row}
 use Rattle.joining.specs.Store.{Columns, rowAt, setRow, setParent, nodeFrom, Sized}
-use Rattle.joining.specs.Moves.{Spliced}
-use Rattle.joining.specs.Join.{spotIn, terminalRow, pathBelow, splitRows, oneMore, twoMore, RowAttached, BranchSplit}
+use Rattle.joining.specs.Links.{Spliced}
+use Rattle.joining.specs.Join.{viewIn, terminalRow, pathBelow, splitRows, oneMore, twoMore, RowAttached, BranchSplit}
 use Rattle.joining.specs.Standing.{Stores}
 use Rattle.joining.proofs.Steps.{parent-at}
 use Rattle.joining.proofs.Attaching.{keeps-attach, sized-attach}
-use Rattle.joining.proofs.Splitting.{tipNode, knotNode, keeps-split, sized-split}
+use Rattle.joining.proofs.Splitting.{terminalNode, steinerNode, keeps-split, sized-split}
 
 module _ (t : Tree) (f : WellFormed t) (k : Counts) (c : Columns) (s : Stores t k c) (m : ℕ) (z : Sized m c) where
   abbrev ns : List Node
@@ -61,7 +61,7 @@ module _ (t : Tree) (f : WellFormed t) (k : Counts) (c : Columns) (s : Stores t 
     sized-terminal = sized-attach m ns c z (s .keeps) (f .linked) p h (omega (arith, s .size)) new _ (c′ .rows) (c′ .last) (c′ .prev) (there .rows) (there .links) new-is
 
   -- the path at p, and d from it
-  pub path-below : (p : ℕ) → p < length (t .nodes) → (q : Point) → pathBelow (spotIn (c .rows) p) q ≡ nodeAt (t .nodes) p .path + dist (nodeAt (t .nodes) p .point) q
+  pub path-below : (p : ℕ) → p < length (t .nodes) → (q : Point) → pathBelow (viewIn (c .rows) p) q ≡ nodeAt (t .nodes) p .path + dist (nodeAt (t .nodes) p .point) q
   path-below p h q = ap (λ (n : Node). n .path + dist (n .point) q) (sym (s .keeps .rows p h))
 
   -- ---- on the branch from p to d
@@ -81,8 +81,8 @@ module _ (t : Tree) (f : WellFormed t) (k : Counts) (c : Columns) (s : Stores t 
     top : k .nodes + 1 ≡ suc (length ns)
     top = omega (arith, s .size)
 
-    tip-is : nodeFrom (splitRows k (spotIn (c .rows) p) (spotIn (c .rows) d) q .terminal) [] ≡ tipNode ns (t .nextSteiner) (t .nextTerminal) q p d
-    tip-is =
+    terminal-is : nodeFrom (splitRows k (viewIn (c .rows) p) (viewIn (c .rows) d) q .terminal) [] ≡ terminalNode ns (t .nextSteiner) (t .nextTerminal) q p d
+    terminal-is =
         λ i. record {
           name = terminal (sym (s .terminal) i);
           parent = (parent-at (k .nodes + 1) (omega (arith, z .few)) ∙ ap at top) i;
@@ -93,8 +93,8 @@ module _ (t : Tree) (f : WellFormed t) (k : Counts) (c : Columns) (s : Stores t 
           delay = zeroFigure;
         }
 
-    knot-is : nodeFrom (splitRows k (spotIn (c .rows) p) (spotIn (c .rows) d) q .steiner) (d ∷ length ns ∷ []) ≡ knotNode ns (t .nextSteiner) (t .nextTerminal) q p d
-    knot-is =
+    steiner-is : nodeFrom (splitRows k (viewIn (c .rows) p) (viewIn (c .rows) d) q .steiner) (d ∷ length ns ∷ []) ≡ steinerNode ns (t .nextSteiner) (t .nextTerminal) q p d
+    steiner-is =
         λ i. record {
           name = steiner (sym (s .steiner) i);
           parent = parent-at p (omega (arith, in-p, s .size, z .few)) i;
@@ -111,10 +111,10 @@ module _ (t : Tree) (f : WellFormed t) (k : Counts) (c : Columns) (s : Stores t 
         (subst (λ (n : ℕ). Spliced (c .last) (c .prev) p d n (k .nodes + 1) (c′ .last) (c′ .prev)) (sym (s .size)) (o .links))
 
     abbrev T : Row
-    T = splitRows k (spotIn (c .rows) p) (spotIn (c .rows) d) q .terminal
+    T = splitRows k (viewIn (c .rows) p) (viewIn (c .rows) d) q .terminal
 
     abbrev S : Row
-    S = splitRows k (spotIn (c .rows) p) (spotIn (c .rows) d) q .steiner
+    S = splitRows k (viewIn (c .rows) p) (viewIn (c .rows) d) q .steiner
 
     rows-there : c′ .rows ≡ setParent (setRow (setRow (c .rows) (length ns) T) (suc (length ns)) S) d (suc (length ns))
     rows-there = o .rows ∙ (λ i. setParent (setRow (setRow (c .rows) (sym (s .size) i) T) (top i) S) d (top i))
@@ -125,7 +125,7 @@ module _ (t : Tree) (f : WellFormed t) (k : Counts) (c : Columns) (s : Stores t 
           size = omega (arith, length-split ns (t .nextSteiner) (t .nextTerminal) q p d in-p in-d (not-own (f .linked) d p link), s .size);
           steiner = omega (arith, s .steiner);
           terminal = omega (arith, s .terminal);
-          keeps = keeps-split m ns c z (s .keeps) (f .linked) p d link (omega (arith, s .size)) (t .nextSteiner) (t .nextTerminal) q (c′ .last) (c′ .prev) links-there T S (c′ .rows) rows-there tip-is knot-is;
+          keeps = keeps-split m ns c z (s .keeps) (f .linked) p d link (omega (arith, s .size)) (t .nextSteiner) (t .nextTerminal) q (c′ .last) (c′ .prev) links-there T S (c′ .rows) rows-there terminal-is steiner-is;
         }
 
     pub sized-split-in : Sized m c′

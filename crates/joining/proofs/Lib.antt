@@ -1,4 +1,6 @@
-pub mod Links
+pub mod Moves
+pub mod Lists
+pub mod Predecessor
 pub mod Agree
 pub mod Steps
 pub mod Attaching

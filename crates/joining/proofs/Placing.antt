@@ -4,22 +4,21 @@ use mathlib.Core.Path.{_≡_, sym, subst}
 use mathlib.Core.List.{List}
 use native.Mathlib.Omega.{arith}
 use lib.ListN.{length, getD}
-use Rattle.tree.specs.Limits.{mostNodes, noNode}
 use Rattle.geometry.specs.declared.Point.{Point}
+use Rattle.tree.specs.Limits.{mostNodes, noNode}
 use Rattle.tree.specs.Tree.{Tree, at, terminal}
 use Rattle.tree.specs.Route.{joined}
 use Rattle.tree.specs.WellFormed.{newNodes}
 use Rattle.tree.proofs.Linking.{child-in, parent-in}
 use Rattle.search.specs.declared.Join.{Join}
 use Rattle.search.specs.declared.Join.the-variants.{Onto, Split}
-use Rattle.search.specs.Search.{nodeIndex}
+use Rattle.search.specs.Walk.{nodeIndex}
 use Rattle.search.specs.Columns.{Has, chain, Chain}
-use Rattle.search.specs.Tree.{examined}
-use Rattle.search.specs.Find.{joinOf}
+use Rattle.search.specs.Find.{examined, joinOf}
 use Rattle.joining.specs.declared.Counts.{Counts}
 use Rattle.joining.specs.declared.Row.{Row}
 use Rattle.joining.specs.Store.{Columns}
-use Rattle.joining.specs.Join.{ReadsIn, spotIn, terminalRow, pathBelow, oneMore, twoMore, Attachable, RowAttached, Splittable, BranchSplit}
+use Rattle.joining.specs.Join.{ReadsIn, viewIn, terminalRow, pathBelow, oneMore, twoMore, Attachable, RowAttached, Splittable, BranchSplit}
 use Rattle.joining.specs.Standing.{Standing, At, Joined}
 use Rattle.joining.proofs.Agree.{has-child}
 use Rattle.joining.proofs.Reading.{children-are, reads}
@@ -72,14 +71,14 @@ module _ {j : Join} {q : Point} {k : Counts} {c : Columns} (v₀ : Standing (At 
   pub reads-onto : ReadsIn (c .rows) p
   reads-onto = read v p (v .when)
 
-  module _ (row : Row) (er : row ≡ terminalRow p q (pathBelow (spotIn (c .rows) p) q) (k .terminal .0)) where
+  module _ (row : Row) (er : row ≡ terminalRow p q (pathBelow (viewIn (c .rows) p) q) (k .terminal .0)) where
     pub may-onto : Attachable c (k .nodes) (row .parent .0)
     may-onto = subst (λ (x : Row). Attachable c (k .nodes) (x .parent .0)) (sym er) (may-attach v (omega arith) p (v .when))
 
     pub did-onto : (c′ : Columns) → RowAttached c (k .nodes) row c′ → (r : Counts) → r ≡ oneMore k → Joined j q k c r c′
     unfolding joined
     did-onto c′ o₀ r ek =
-        let o : RowAttached c (k .nodes) (terminalRow p q (pathBelow (spotIn (c .rows) p) q) (k .terminal .0)) c′ = subst (λ (x : Row). RowAttached c (k .nodes) x c′) er o₀ in
+        let o : RowAttached c (k .nodes) (terminalRow p q (pathBelow (viewIn (c .rows) p) q) (k .terminal .0)) c′ = subst (λ (x : Row). RowAttached c (k .nodes) x c′) er o₀ in
         subst (λ (x : Join). Joined x q k c r c′) (sym e)
         (subst (λ (x : Counts). Joined (Onto (nodeIndex p)) q k c x c′) (sym ek)
         (record {
@@ -99,8 +98,8 @@ module _ {j : Join} {q : Point} {k : Counts} {c : Columns} (v₀ : Standing (At 
   in-d : d < length (u .tree .nodes)
   in-d = child-in (u .formed .linked) d p (u .when)
 
-  kids-p : chain (c .prev) (getD (c .last) p 0) ≡ examined (u .tree .nodes) p
-  kids-p = children-are (u .tree) (u .formed) (few u) _ c (u .sized) (u .stores .keeps) (omega (arith, u .stores .size, u .room)) p in-p
+  children-p : chain (c .prev) (getD (c .last) p 0) ≡ examined (u .tree .nodes) p
+  children-p = children-are (u .tree) (u .formed) (few u) _ c (u .sized) (u .stores .keeps) (omega (arith, u .stores .size, u .room)) p in-p
 
   pub may-split : Splittable c k p d q
   may-split =
@@ -112,8 +111,8 @@ module _ {j : Join} {q : Point} {k : Counts} {c : Columns} (v₀ : Standing (At 
           in-c = omega (arith, u .sized .prev, in-m u d in-d);
           in-i = (omega (arith, u .sized .last, u .room), omega (arith, u .sized .prev, u .room));
           in-s = (omega (arith, u .sized .last, u .room), omega (arith, u .sized .prev, u .room));
-          linked = record { is = subst (λ (l : List ℕ). Chain (c .prev) (getD (c .last) p 0) l) (sym kids-p) (u .stores .keeps .chains p in-p) };
-          has = subst (Has d) (sym kids-p) (has-child (u .tree .nodes) (u .formed .linked) p d (u .when));
+          linked = record { is = subst (λ (l : List ℕ). Chain (c .prev) (getD (c .last) p 0) l) (sym children-p) (u .stores .keeps .children p in-p) };
+          has = subst (Has d) (sym children-p) (has-child (u .tree .nodes) (u .formed .linked) p d (u .when));
         };
       }
 

@@ -1,19 +1,18 @@
 -- What columns that store a well-formed tree give: its nodes can be read, its children are the chains, the search can walk it, and it can be had back from them.
-use Prim.Native.Nat.{ℕ, zero, suc, _+_, _≤_, _<_}
+use Prim.Native.Nat.{ℕ, zero, suc, _≤_, _<_}
 use mathlib.Core.Path.{_≡_, refl, ap, sym, subst, _∙_}
 use mathlib.Core.List.{List, [], _∷_, _++_, reverse, reverse-reverse}
 use native.Mathlib.Omega.{arith}
 use lib.ListN.{length, getD, length-append, List·getD-append}
 use lib.Seq.{ext-getD, getD-append-add}
-use Rattle.tree.specs.Limits.{longestPath, mostNodes, reach}
 use Rattle.geometry.specs.Laws.{Within}
+use Rattle.tree.specs.Limits.{longestPath, mostNodes, reach}
 use Rattle.tree.specs.Tree.{Node, Tree, nodeAt, blank}
 use Rattle.tree.specs.WellFormed.{WellFormed}
 use Rattle.tree.proofs.Order.{Tri, less, equal, more, tri}
 use Rattle.search.specs.Columns.{chain}
-use Rattle.search.specs.Tree.{examined}
-use Rattle.search.specs.Whole.{Kept, kids-are}
-use Rattle.search.specs.Whole as W
+use Rattle.search.specs.Find.{examined, Kept, Walkable}
+use Rattle.search.proofs.TreeWalk.{chains-are}
 use Rattle.joining.specs.Store.{Columns, rowAt, nodeFrom, nodeOf, nodesOf, upTo, Sized, Keeps}
 use Rattle.joining.specs.Join.{ReadsIn}
 use Rattle.joining.proofs.Agree.{walkable}
@@ -40,7 +39,7 @@ module _ (t : Tree) (f : WellFormed t) (few : length (t .nodes) ≤ mostNodes) w
   pub path-low : (i : ℕ) → nodeAt (t .nodes) i .path ≤ longestPath
   path-low i = omega (arith, f .short i, f .terminals)
 
-  pub walks : W.Tree (t .nodes)
+  pub walks : Walkable (t .nodes)
   walks = walkable (t .nodes) (f .linked) (f .near) path-low
 
   module _ (m : ℕ) (c : Columns) (z : Sized m c) (k : Keeps (t .nodes) c) (room : length (t .nodes) ≤ m) where
@@ -55,11 +54,11 @@ module _ (t : Tree) (f : WellFormed t) (few : length (t .nodes) ≤ mostNodes) w
           few = omega (arith, z .prev, z .few);
           points = λ i h. sym (ap (λ (n : Node). n .point) (k .rows i h));
           paths = λ i h. sym (ap (λ (n : Node). n .path) (k .rows i h));
-          chains = k .chains;
+          chains = k .children;
         }
 
     pub children-are : (p : ℕ) → p < length (t .nodes) → chain (c .prev) (getD (c .last) p 0) ≡ examined (t .nodes) p
-    children-are p h = kids-are (t .nodes) (c .rows .xs) (c .rows .ys) (c .rows .path) (c .last) (c .prev) kept walks p h
+    children-are p h = chains-are (t .nodes) (c .rows .xs) (c .rows .ys) (c .rows .path) (c .last) (c .prev) kept walks p h
 
     pub reads : (p : ℕ) → p < length (t .nodes) → ReadsIn (c .rows) p
     reads p h =

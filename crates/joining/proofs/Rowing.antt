@@ -1,38 +1,38 @@
--- The rows that the code makes are those to be made.
+-- The rows that the code makes are the definition's, and two rows and a parent stored in turn are what a split stores.
 use Prim.Native.Nat.{ℕ, _+_, _≤_, _<_}
-use native.Mathlib.Omega.{arith}
 use mathlib.Core.Path.{_≡_, sym, ap, subst, _∙_}
 use mathlib.Core.List.{List}
+use native.Mathlib.Omega.{arith}
 use lib.ListN.{length, set, length-set}
 use lib.IntN.{ℤ}
-use Rattle.tree.specs.Limits.{longestPath, reach}
 use Rattle.geometry.specs.declared.Point.{Point}
 use Rattle.geometry.specs.Geometry.{dist}
-use Rattle.tree.specs.Search.{nearestOn}
 use Rattle.geometry.specs.Laws.{Within, nearest-within}
-use Rattle.search.specs.declared.Spot.{Spot}
-use Rattle.search.specs.Search.{spotAt}
+use Rattle.tree.specs.Limits.{longestPath, reach}
+use Rattle.tree.specs.Search.{nearestOn}
+use Rattle.search.specs.declared.NodeView.{NodeView}
+use Rattle.search.specs.Walk.{viewAt}
 use Rattle.joining.specs.declared.Row.{Row}
 use Rattle.joining.specs.declared.SplitRows.{SplitRows}
 use Rattle.joining.specs.declared.Counts.{Counts}
 use Rattle.joining.specs.Store.{Rows, setRow, setParent, SizedRows}
-use Rattle.joining.specs.Join.{Reads, terminalRow, pathBelow, splitRows, spotIn, withSplit}
+use Rattle.joining.specs.Join.{Reads, terminalRow, pathBelow, splitRows, viewIn, withSplit}
 use Rattle.joining.proofs.Steps.{sized-row}
 
-pub record Found (P : Spot) : Type 0 where
+pub record Found (P : NodeView) : Type 0 where
   pub near : Within reach (P .point)
   pub long : P .path ≤ longestPath
 
-pub found : (xs ys : List ℤ) (path : List ℕ) (p : ℕ) (P : Spot) → Reads xs ys path p → P ≡ spotAt xs ys path p → Found P
+pub found : (xs ys : List ℤ) (path : List ℕ) (p : ℕ) (P : NodeView) → Reads xs ys path p → P ≡ viewAt xs ys path p → Found P
 found xs ys path p P r e = subst Found (sym e) (record { near = r .near; long = r .long })
 
 pub near-found : (a b q n : Point) → Within reach a → Within reach b → n ≡ nearestOn a b q → Within reach n
 near-found a b q n f g e = subst (Within reach) (sym e) (nearest-within q f g)
 
-pub terminal-row-is : (P Q : Spot) (q : Point) (te d : ℕ) → P ≡ Q → d ≡ dist (P .point) q → terminalRow (Q .node .0) q (P .path + d) te ≡ terminalRow (Q .node .0) q (pathBelow Q q) te
-terminal-row-is P Q q te d e f = λ i. terminalRow (Q .node .0) q (e i .path + (f ∙ ap (λ (x : Spot). dist (x .point) q) e) i) te
+pub terminal-row-is : (P Q : NodeView) (q : Point) (te d : ℕ) → P ≡ Q → d ≡ dist (P .point) q → terminalRow (Q .node .0) q (P .path + d) te ≡ terminalRow (Q .node .0) q (pathBelow Q q) te
+terminal-row-is P Q q te d e f = λ i. terminalRow (Q .node .0) q (e i .path + (f ∙ ap (λ (x : NodeView). dist (x .point) q) e) i) te
 
-pub split-rows-are : (k : Counts) (P C P′ C′ : Spot) (q n : Point) (d e : ℕ) → P ≡ P′ → C ≡ C′ → n ≡ nearestOn (P .point) (C .point) q → d ≡ dist (P .point) n → e ≡ dist n q
+pub split-rows-are : (k : Counts) (P C P′ C′ : NodeView) (q n : Point) (d e : ℕ) → P ≡ P′ → C ≡ C′ → n ≡ nearestOn (P .point) (C .point) q → d ≡ dist (P .point) n → e ≡ dist n q
     → record {
       terminal = terminalRow (k .nodes + 1) q (P .path + d + e) (k .terminal .0);
       steiner = record { point = n; path = P .path + d; parent = P′ .node; kind = 1; number = k .steiner .0 };
@@ -65,7 +65,7 @@ module _ (r r₁ : Rows) (n : ℕ) (T : Row) (z : SizedRows (length (r .xs)) r) 
     pub parent-length : (i v : ℕ) → length (set (r₂ .parent) i v) ≡ length (r .parent)
     parent-length i v = length-set (r₂ .parent) i v ∙ twice .parent ∙ sym (z .parent)
 
-pub stored-split : (r r₁ r₂ : Rows) (k : Counts) (p c : ℕ) (q : Point) (new : SplitRows) (i : ℕ) → new ≡ splitRows k (spotIn r p) (spotIn r c) q
+pub stored-split : (r r₁ r₂ : Rows) (k : Counts) (p c : ℕ) (q : Point) (new : SplitRows) (i : ℕ) → new ≡ splitRows k (viewIn r p) (viewIn r c) q
     → r₁ ≡ setRow r (k .nodes) (new .terminal) → r₂ ≡ setRow r₁ (k .nodes + 1) (new .steiner) → i ≡ c → setParent r₂ i (k .nodes + 1) ≡ withSplit r k p c q
 stored-split r r₁ r₂ k p c q new i e e₁ e₂ ei =
     ap (λ (j : ℕ). setParent r₂ j (k .nodes + 1)) ei

@@ -1,7 +1,7 @@
--- The columns after a terminal joins on a branch.
-use Prim.Native.Nat.{ℕ, zero, suc, _+_, _≤_, _<_}
-use mathlib.Core.Path.{_≡_, refl, ap, sym, subst, _∙_}
-use mathlib.Core.Logic.{_≢_, _⊎_, ⊎-elim}
+-- The columns after a branch is split keep the nodes with two more. The idea: four changes of links in turn, each of which keeps the chains that it does not name.
+use Prim.Native.Nat.{ℕ, suc, _+_, _≤_, _<_}
+use mathlib.Core.Path.{_≡_, ap, sym, subst, _∙_}
+use mathlib.Core.Logic.{_≢_, ⊎-elim}
 use mathlib.Core.List.{List, [], _∷_, _++_, reverse}
 use native.Mathlib.Omega.{arith}
 use lib.ListN.{length}
@@ -15,21 +15,21 @@ use Rattle.tree.proofs.Linking.{one-ne, count-snoc, count-without, count-gone, 
 use Rattle.tree.proofs.Measuring.{at-inj}
 use Rattle.tree.proofs.Nodes.{AtSplit, tip, knot, start, end, rest, at-split, length-split}
 use Rattle.search.specs.Columns.{Has}
-use Rattle.search.specs.Once.{pigeon}
-use Rattle.search.specs.Lists.{attach-own, attach-other, detach-own, detach-other}
-use Rattle.search.specs.Tree.{examined}
+use Rattle.search.specs.Find.{examined}
+use Rattle.search.proofs.Distinct.{pigeon}
 use Rattle.joining.specs.declared.Row.{Row}
 use Rattle.joining.specs.Store.{Rows, Columns, columns, rowAt, setRow, setParent, SizedRows, Sized, Keeps, nodeFrom}
-use Rattle.joining.specs.Moves.{Adopted, Spliced}
-use Rattle.joining.proofs.Agree.{count-has, count-reverse, child-of, has-child, once, no-child}
-use Rattle.joining.proofs.Steps.{row-same, row-other, parent-same, parent-other, childOf, parent-at, sized-row, sized-parent, node-lift, chain-lift, K, absent, without-is, attached-last, attached-prev, appended-own, appended-other, appended-self, appended-last, appended-prev, detached-last, detached-prev}
+use Rattle.joining.specs.Links.{ChildrenAre, Adopted, Spliced}
+use Rattle.joining.proofs.Lists.{attach-own, attach-other, detach-own, detach-other}
+use Rattle.joining.proofs.Agree.{count-none, child-of, has-child, once, no-child}
+use Rattle.joining.proofs.Steps.{row-same, row-other, parent-same, parent-other, childOf, parent-at, sized-row, sized-parent, node-lift, chain-lift, absent, attached-last, attached-prev, appended-own, appended-other, appended-self, appended-last, appended-prev, detached-last, detached-prev}
 
 -- the two new nodes
-abbrev pub tipNode : List Node → ℕ → ℕ → Point → ℕ → ℕ → Node
-tipNode ns st te q p c = newNode (terminal te) (suc (length ns)) q [] (branch (nodeAt ns p) (nodeAt ns c) q .L)
+abbrev pub terminalNode : List Node → ℕ → ℕ → Point → ℕ → ℕ → Node
+terminalNode ns st te q p c = newNode (terminal te) (suc (length ns)) q [] (branch (nodeAt ns p) (nodeAt ns c) q .L)
 
-abbrev pub knotNode : List Node → ℕ → ℕ → Point → ℕ → ℕ → Node
-knotNode ns st te q p c =
+abbrev pub steinerNode : List Node → ℕ → ℕ → Point → ℕ → ℕ → Node
+steinerNode ns st te q p c =
     newNode (steiner st) p (branch (nodeAt ns p) (nodeAt ns c) q .near) (c ∷ length ns ∷ []) (nodeAt ns p .path + dist (nodeAt ns p .point) (branch (nodeAt ns p) (nodeAt ns c) q .near))
 
 module _ (m : ℕ) (ns : List Node) (cs : Columns) (z : Sized m cs) (k : Keeps ns cs) (g : Linked ns) (p c : ℕ) (link : nodeAt ns c .parent ≡ at p) (room : suc (length ns) < m)
@@ -52,21 +52,14 @@ module _ (m : ℕ) (ns : List Node) (cs : Columns) (z : Sized m cs) (k : Keeps n
   abbrev M : List Node
   M = joined ns st te q (split p c)
 
-  abbrev kids : ℕ → List ℕ
-  kids j = nodeAt ns j .children
+  abbrev children : ℕ → List ℕ
+  children j = nodeAt ns j .children
 
-  none-past : (j x : ℕ) → length ns ≤ x → count x (kids j) ≡ 0
-  none-past j x l = zero-of (count x (kids j)) (λ t. no-child ns g j x l (count-has-reverse x j t))
-    where
-      zero-of : (a : ℕ) → (0 < a → ⊥) → a ≡ 0
-      zero-of zero f = refl
-      zero-of (suc a) f = absurd (f (omega arith))
-
-      count-has-reverse : (x j : ℕ) → 0 < count x (kids j) → Has x (examined ns j)
-      count-has-reverse x j t = count-has x (examined ns j) (omega (arith, count-reverse x (kids j)))
+  none-past : (j x : ℕ) → length ns ≤ x → count x (children j) ≡ 0
+  none-past j x l = count-none x (children j) (no-child ns g j x l)
 
   -- c is no child of another node
-  not-here : (j : ℕ) → j ≢ p → Has c (reverse (kids j)) → ⊥
+  not-here : (j : ℕ) → j ≢ p → Has c (reverse (children j)) → ⊥
   not-here j d h = d (at-inj (sym (child-of ns g j c h) ∙ link))
 
   short : length (examined ns p) ≤ length (cs .prev)
@@ -105,50 +98,45 @@ module _ (m : ℕ) (ns : List Node) (cs : Columns) (z : Sized m cs) (k : Keeps n
     p₄ = appended-prev m (w .last₁) (w .prev₁) s i last′ prev′ (w .ends) l₃ p₃ room (omega arith)
 
     -- the three steps after c has left, at another node than s, p and i
-    step-other : (j : ℕ) (ds : List ℕ) → j ≢ p → j ≢ s → j ≢ i → K (v .last₁) (v .prev₁) j ds → count s ds ≡ 0 → count c ds ≡ 0 → count i ds ≡ 0 → K last′ prev′ j ds
+    step-other : (j : ℕ) (ds : List ℕ) → j ≢ p → j ≢ s → j ≢ i → ChildrenAre (v .last₁) (v .prev₁) j ds → count s ds ≡ 0 → count c ds ≡ 0 → count i ds ≡ 0 → ChildrenAre last′ prev′ j ds
     step-other j ds jp js ji h es ec ei =
         appended-other m (w .last₁) (w .prev₁) s i last′ prev′ (w .ends) l₃ p₃ room (omega arith) j ds js ji
         (attach-other (v .last₂) (v .prev₂) (w .last₁) (w .prev₁) s c (omega (arith, l₂)) (omega (arith, p₂, hc)) (w .takes) j ds js
         (appended-other m (v .last₁) (v .prev₁) p s (v .last₂) (v .prev₂) (v .joins) l₁ p₁ hm room j ds jp js h (absent s ds es)) (absent c ds ec))
         (absent i ds ei)
 
-    zero-here : (j : ℕ) → j ≢ p → count c (kids j) ≡ 0
-    zero-here j d = zero-of (count c (kids j)) (λ t. not-here j d (count-has c (examined ns j) (omega (arith, count-reverse c (kids j)))))
-      where
-        zero-of : (a : ℕ) → (0 < a → ⊥) → a ≡ 0
-        zero-of zero f = refl
-        zero-of (suc a) f = absurd (f (omega arith))
+    zero-here : (j : ℕ) → j ≢ p → count c (children j) ≡ 0
+    zero-here j d = count-none c (children j) (not-here j d)
 
-    chain-other : (j : ℕ) → j < length ns → j ≢ p → K last′ prev′ j (kids j)
+    chain-other : (j : ℕ) → j < length ns → j ≢ p → ChildrenAre last′ prev′ j (children j)
     chain-other j l d =
-        step-other j (kids j) d (omega arith) (omega arith)
-        (detach-other (cs .last) (cs .prev) (v .last₁) (v .prev₁) p c (omega (arith, z .last, hp)) (omega (arith, z .prev, z .few)) (v .leaves) (kids p) (k .chains p hp) short (has-child ns g p c link) (once ns g p)
-        j (kids j) d (k .chains j l) (λ x a b. d (at-inj (sym (child-of ns g j x b) ∙ child-of ns g p x a))))
+        step-other j (children j) d (omega arith) (omega arith)
+        (detach-other (cs .last) (cs .prev) (v .last₁) (v .prev₁) p c (omega (arith, z .last, hp)) (omega (arith, z .prev, z .few)) (v .leaves) (children p) (k .children p hp) short (has-child ns g p c link) (once ns g p)
+        j (children j) d (k .children j l) (λ x a b. d (at-inj (sym (child-of ns g j x b) ∙ child-of ns g p x a))))
         (none-past j s (omega arith)) (zero-here j d) (none-past j i (omega arith))
 
     abbrev left : List ℕ
-    left = without c (kids p)
+    left = without c (children p)
 
     count-left : (x : ℕ) → x ≢ c → x ≢ s → length ns ≤ x → count x (left ++ (s ∷ [])) ≡ 0
-    count-left x xc xs l = omega (arith, count-snoc x left s, count-without c x (kids p) xc, none-past p x l, one-ne s x (λ e. xs (sym e)))
+    count-left x xc xs l = omega (arith, count-snoc x left s, count-without c x (children p) xc, none-past p x l, one-ne s x (λ e. xs (sym e)))
 
-    chain-start : K last′ prev′ p (left ++ (s ∷ []))
+    chain-start : ChildrenAre last′ prev′ p (left ++ (s ∷ []))
     chain-start =
         appended-other m (w .last₁) (w .prev₁) s i last′ prev′ (w .ends) l₃ p₃ room (omega arith) p (left ++ (s ∷ [])) (omega (arith, hp)) (omega (arith, hp))
         (attach-other (v .last₂) (v .prev₂) (w .last₁) (w .prev₁) s c (omega (arith, l₂)) (omega (arith, p₂, hc)) (w .takes) p (left ++ (s ∷ [])) (omega (arith, hp))
         (appended-own m (v .last₁) (v .prev₁) p s (v .last₂) (v .prev₂) (v .joins) l₁ p₁ hm room left (omega (arith, hp))
-        (subst (λ (l : List ℕ). K (v .last₁) (v .prev₁) p l) (without-is c (kids p))
-        (detach-own (cs .last) (cs .prev) (v .last₁) (v .prev₁) p c (omega (arith, z .last, hp)) (omega (arith, z .prev, z .few)) (v .leaves) (kids p) (k .chains p hp) short (has-child ns g p c link) (once ns g p)))
-        (absent s left (omega (arith, count-without c s (kids p) (omega (arith, hc)), none-past p s (omega arith)))))
-        (absent c (left ++ (s ∷ [])) (omega (arith, count-snoc c left s, count-gone c (kids p), one-ne s c (omega (arith, hc))))))
+        (detach-own (cs .last) (cs .prev) (v .last₁) (v .prev₁) p c (omega (arith, z .last, hp)) (omega (arith, z .prev, z .few)) (v .leaves) (children p) (k .children p hp) short (has-child ns g p c link) (once ns g p))
+        (absent s left (omega (arith, count-without c s (children p) (omega (arith, hc)), none-past p s (omega arith)))))
+        (absent c (left ++ (s ∷ [])) (omega (arith, count-snoc c left s, count-gone c (children p), one-ne s c (omega (arith, hc))))))
         (absent i (left ++ (s ∷ [])) (count-left i (omega (arith, hc)) (omega arith) (omega arith)))
 
-    chain-tip : K last′ prev′ i []
-    chain-tip = appended-self m (w .last₁) (w .prev₁) s i last′ prev′ (w .ends) l₃ p₃ room (omega arith) (omega arith)
+    chain-terminal : ChildrenAre last′ prev′ i []
+    chain-terminal = appended-self m (w .last₁) (w .prev₁) s i last′ prev′ (w .ends) l₃ p₃ room (omega arith) (omega arith)
 
-    chain-knot : K last′ prev′ s (c ∷ i ∷ [])
+    chain-steiner : ChildrenAre last′ prev′ s (c ∷ i ∷ [])
     unfolding Has
-    chain-knot =
+    chain-steiner =
         appended-own m (w .last₁) (w .prev₁) s i last′ prev′ (w .ends) l₃ p₃ room (omega arith) (c ∷ []) (omega arith)
         (attach-own (v .last₂) (v .prev₂) (w .last₁) (w .prev₁) s c (omega (arith, l₂)) (omega (arith, p₂, hc)) (w .takes) []
         (appended-self m (v .last₁) (v .prev₁) p s (v .last₂) (v .prev₂) (v .joins) l₁ p₁ hm room (omega (arith, hp))) (λ x. x))
@@ -157,20 +145,20 @@ module _ (m : ℕ) (ns : List Node) (cs : Columns) (z : Sized m cs) (k : Keeps n
     inside : (j : ℕ) → j < length M → j ≢ i → j ≢ s → j < length ns
     inside j l d e = omega (arith, length-split ns st te q p c hp hc ne)
 
-    pub chains-split : (j : ℕ) → j < length M → K last′ prev′ j (nodeAt M j .children)
+    pub chains-split : (j : ℕ) → j < length M → ChildrenAre last′ prev′ j (nodeAt M j .children)
     unfolding replaceLast
     chains-split j l = by (at-split ns st te q p c hp hc ne j)
       where
-        by : AtSplit ns st te q p c hp hc ne j → K last′ prev′ j (nodeAt M j .children)
-        by (tip e f) = chain-lift M last′ prev′ j _ f (subst (λ (x : ℕ). K last′ prev′ x []) (sym e) chain-tip)
-        by (knot e f) = chain-lift M last′ prev′ j _ f (subst (λ (x : ℕ). K last′ prev′ x (c ∷ i ∷ [])) (sym e) chain-knot)
-        by (start e f) = chain-lift M last′ prev′ j _ f (subst (λ (x : ℕ). K last′ prev′ x (left ++ (s ∷ []))) (sym e) chain-start)
-        by (end e f) = chain-lift M last′ prev′ j _ f (subst (λ (x : ℕ). K last′ prev′ x (kids c)) (sym e) (chain-other c hc ne))
+        by : AtSplit ns st te q p c hp hc ne j → ChildrenAre last′ prev′ j (nodeAt M j .children)
+        by (tip e f) = chain-lift M last′ prev′ j _ f (subst (λ (x : ℕ). ChildrenAre last′ prev′ x []) (sym e) chain-terminal)
+        by (knot e f) = chain-lift M last′ prev′ j _ f (subst (λ (x : ℕ). ChildrenAre last′ prev′ x (c ∷ i ∷ [])) (sym e) chain-steiner)
+        by (start e f) = chain-lift M last′ prev′ j _ f (subst (λ (x : ℕ). ChildrenAre last′ prev′ x (left ++ (s ∷ []))) (sym e) chain-start)
+        by (end e f) = chain-lift M last′ prev′ j _ f (subst (λ (x : ℕ). ChildrenAre last′ prev′ x (children c)) (sym e) (chain-other c hc ne))
         by (rest a b d e f) = chain-lift M last′ prev′ j _ f (chain-other j (inside j l a b) d)
 
   -- ---- the rows
   module _ (T S : Row) (rows′ : Rows) (er : rows′ ≡ setParent (setRow (setRow (cs .rows) i T) s S) c s)
-      (isT : nodeFrom T [] ≡ tipNode ns st te q p c) (isS : nodeFrom S (c ∷ i ∷ []) ≡ knotNode ns st te q p c) where
+      (isT : nodeFrom T [] ≡ terminalNode ns st te q p c) (isS : nodeFrom S (c ∷ i ∷ []) ≡ steinerNode ns st te q p c) where
     R : Rows
     R = setRow (setRow (cs .rows) i T) s S
 
@@ -189,13 +177,13 @@ module _ (m : ℕ) (ns : List Node) (cs : Columns) (z : Sized m cs) (k : Keeps n
     unfolding R
     row-rest j d e = row-other (setRow (cs .rows) i T) s j S e ∙ row-other (cs .rows) i j T d
 
-    row-tip : rowAt rows′ i ≡ T
+    row-terminal : rowAt rows′ i ≡ T
     unfolding R
-    row-tip = row-at i (omega (arith, hc)) ∙ row-other (setRow (cs .rows) i T) s i S (omega arith) ∙ row-same m (cs .rows) i T (z .rows) (omega arith)
+    row-terminal = row-at i (omega (arith, hc)) ∙ row-other (setRow (cs .rows) i T) s i S (omega arith) ∙ row-same m (cs .rows) i T (z .rows) (omega arith)
 
-    row-knot : rowAt rows′ s ≡ S
+    row-steiner : rowAt rows′ s ≡ S
     unfolding R
-    row-knot = row-at s (omega (arith, hc)) ∙ row-same m (setRow (cs .rows) i T) s S z₁ room
+    row-steiner = row-at s (omega (arith, hc)) ∙ row-same m (setRow (cs .rows) i T) s S z₁ room
 
     row-end : rowAt rows′ c ≡ childOf s (rowAt (cs .rows) c)
     unfolding R
@@ -206,26 +194,22 @@ module _ (m : ℕ) (ns : List Node) (cs : Columns) (z : Sized m cs) (k : Keeps n
     rows-split j l = by (at-split ns st te q p c hp hc ne j)
       where
         by : AtSplit ns st te q p c hp hc ne j → nodeAt M j ≡ nodeFrom (rowAt rows′ j) (nodeAt M j .children)
-        by (tip e f) = node-lift M rows′ j _ T f (ap (rowAt rows′) e ∙ row-tip) (sym isT)
-        by (knot e f) = node-lift M rows′ j _ S f (ap (rowAt rows′) e ∙ row-knot) (sym isS)
+        by (tip e f) = node-lift M rows′ j _ T f (ap (rowAt rows′) e ∙ row-terminal) (sym isT)
+        by (knot e f) = node-lift M rows′ j _ S f (ap (rowAt rows′) e ∙ row-steiner) (sym isS)
         by (start e f) =
             node-lift M rows′ j _ (rowAt (cs .rows) p) f (ap (rowAt rows′) e ∙ row-at p (λ x. ne (sym x)) ∙ row-rest p (omega (arith, hp)) (omega (arith, hp)))
             (ap (replaceLast c s) (k .rows p hp))
         by (end e f) =
             node-lift M rows′ j _ (childOf s (rowAt (cs .rows) c)) f (ap (rowAt rows′) e ∙ row-end)
-            (ap (withParent s) (k .rows c hc) ∙ (λ x. record { name = nodeFrom (rowAt (cs .rows) c) [] .name; parent = sym (parent-at s (omega (arith, z .few))) x; point = rowAt (cs .rows) c .point; children = kids c; path = rowAt (cs .rows) c .path; capacitance = zeroFigure; delay = zeroFigure }))
+            (ap (withParent s) (k .rows c hc) ∙ (λ x. record { name = nodeFrom (rowAt (cs .rows) c) [] .name; parent = sym (parent-at s (omega (arith, z .few))) x; point = rowAt (cs .rows) c .point; children = children c; path = rowAt (cs .rows) c .path; capacitance = zeroFigure; delay = zeroFigure }))
         by (rest a b d e f) =
             node-lift M rows′ j _ (rowAt (cs .rows) j) f (row-at j e ∙ row-rest j a b) (k .rows j (omega (arith, length-split ns st te q p c hp hc ne)))
 
-    pub sized-rows-split : SizedRows m rows′
-    unfolding R
-    sized-rows-split = subst (SizedRows m) (sym er) (sized-parent m R c s z₂)
-
   pub keeps-split : (last′ prev′ : List ℕ) (v : Spliced (cs .last) (cs .prev) p c i s last′ prev′) (T S : Row) (rows′ : Rows)
       → rows′ ≡ setParent (setRow (setRow (cs .rows) i T) s S) c s
-      → nodeFrom T [] ≡ tipNode ns st te q p c → nodeFrom S (c ∷ i ∷ []) ≡ knotNode ns st te q p c
+      → nodeFrom T [] ≡ terminalNode ns st te q p c → nodeFrom S (c ∷ i ∷ []) ≡ steinerNode ns st te q p c
       → Keeps M (columns rows′ last′ prev′)
-  keeps-split last′ prev′ v T S rows′ er isT isS = record { rows = rows-split T S rows′ er isT isS; chains = chains-split last′ prev′ v }
+  keeps-split last′ prev′ v T S rows′ er isT isS = record { rows = rows-split T S rows′ er isT isS; children = chains-split last′ prev′ v }
 
   pub sized-split : (last′ prev′ : List ℕ) (v : Spliced (cs .last) (cs .prev) p c i s last′ prev′) (T S : Row) (rows′ : Rows)
       → rows′ ≡ setParent (setRow (setRow (cs .rows) i T) s S) c s

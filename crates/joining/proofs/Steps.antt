@@ -1,6 +1,6 @@
--- Stores in rows and links, by index.
-use Prim.Native.Nat.{ℕ, _+_, _<_}
-use mathlib.Core.Path.{_≡_, refl, ap, sym, subst, _∙_}
+-- One store in rows, and one change of links, by index: what stands there after it, and that lengths stay.
+use Prim.Native.Nat.{ℕ, _<_}
+use mathlib.Core.Path.{_≡_, ap, sym, subst, _∙_}
 use mathlib.Core.Logic.{_≢_}
 use mathlib.Core.Bool.{Bool, true, false, cond}
 use mathlib.Core.List.{List, [], _∷_, _++_, reverse}
@@ -11,16 +11,14 @@ use lib.Dec.{eqb}
 use lib.IntN.{pos}
 use borrow.Author.Tests.{ne-eqb}
 use Rattle.tree.specs.Limits.{noNode}
-use Rattle.tree.specs.Tree.{Node, at, nodeAt, without}
+use Rattle.tree.specs.Tree.{Node, at, nodeAt}
 use Rattle.tree.specs.Shape.{count}
-use Rattle.search.specs.Search.{nodeIndex}
+use Rattle.search.specs.Walk.{nodeIndex}
 use Rattle.search.specs.Columns.{Has, Chain, chain}
-use Rattle.search.specs.Moves as M
-use Rattle.search.specs.Moves.{Attached, Detached, beforeOf}
-use Rattle.search.specs.Lists.{attach-own, attach-other}
 use Rattle.joining.specs.declared.Row.{Row}
+use Rattle.joining.specs.Links.{ChildrenAre, Attached, Detached, beforeOf, Appended}
 use Rattle.joining.specs.Store.{Rows, rowAt, setRow, setParent, SizedRows, nodeFrom, parentFrom}
-use Rattle.joining.specs.Moves.{Appended}
+use Rattle.joining.proofs.Lists.{attach-own, attach-other}
 use Rattle.joining.proofs.Agree.{has-count, count-reverse}
 
 -- ---- rows
@@ -76,19 +74,11 @@ pub node-lift : (M : List Node) (r : Rows) (j : ℕ) (x : Node) (n : Row) → no
 node-lift M r j x n e f h = e ∙ h ∙ (λ i. nodeFrom (sym f i) (sym e i .children))
 
 -- ---- links
-abbrev pub K : List ℕ → List ℕ → ℕ → List ℕ → Type 0
-K last prev q cs = Chain prev (getD last q 0) (reverse cs)
-
-pub chain-lift : (M : List Node) (last prev : List ℕ) (j : ℕ) (x : Node) → nodeAt M j ≡ x → K last prev j (x .children) → K last prev j (nodeAt M j .children)
-chain-lift M last prev j x e h = subst (λ (n : Node). K last prev j (n .children)) (sym e) h
+pub chain-lift : (M : List Node) (last prev : List ℕ) (j : ℕ) (x : Node) → nodeAt M j ≡ x → ChildrenAre last prev j (x .children) → ChildrenAre last prev j (nodeAt M j .children)
+chain-lift M last prev j x e h = subst (λ (n : Node). ChildrenAre last prev j (n .children)) (sym e) h
 
 pub absent : (x : ℕ) (l : List ℕ) → count x l ≡ 0 → Has x (reverse l) → ⊥
 absent x l e h = omega (arith, has-count x (reverse l) h, count-reverse x l)
-
-pub without-is : (c : ℕ) (l : List ℕ) → M.without c l ≡ without c l
-unfolding M.without without
-without-is c [] = refl
-without-is c (a ∷ r) = λ i. cond (eqb a c) (without-is c r i) (a ∷ without-is c r i)
 
 module _ (m : ℕ) (last prev : List ℕ) (p c : ℕ) (last′ prev′ : List ℕ) (v : Attached last prev p c last′ prev′) (sl : length last ≡ m) (sp : length prev ≡ m) where
   pub attached-last : length last′ ≡ m
@@ -107,16 +97,16 @@ module _ (m : ℕ) (last prev : List ℕ) (p c : ℕ) (last′ prev′ : List �
   pub appended-prev : length prev′ ≡ m
   appended-prev = attached-prev m (set last c noNode) prev p c last′ prev′ v cut sp
 
-  still : (q : ℕ) (cs : List ℕ) → q ≢ c → K last prev q cs → K (set last c noNode) prev q cs
+  still : (q : ℕ) (cs : List ℕ) → q ≢ c → ChildrenAre last prev q cs → ChildrenAre (set last c noNode) prev q cs
   still q cs n h = rw (getD-set-other last c q noNode 0 n) h
 
-  pub appended-own : (cs : List ℕ) → p ≢ c → K last prev p cs → (Has c (reverse cs) → ⊥) → K last′ prev′ p (cs ++ (c ∷ []))
+  pub appended-own : (cs : List ℕ) → p ≢ c → ChildrenAre last prev p cs → (Has c (reverse cs) → ⊥) → ChildrenAre last′ prev′ p (cs ++ (c ∷ []))
   appended-own cs n h f = attach-own (set last c noNode) prev last′ prev′ p c (omega (arith, cut)) (omega (arith, sp)) v cs (still p cs n h) f
 
-  pub appended-other : (q : ℕ) (cs : List ℕ) → q ≢ p → q ≢ c → K last prev q cs → (Has c (reverse cs) → ⊥) → K last′ prev′ q cs
+  pub appended-other : (q : ℕ) (cs : List ℕ) → q ≢ p → q ≢ c → ChildrenAre last prev q cs → (Has c (reverse cs) → ⊥) → ChildrenAre last′ prev′ q cs
   appended-other q cs d n h f = attach-other (set last c noNode) prev last′ prev′ p c (omega (arith, cut)) (omega (arith, sp)) v q cs d (still q cs n h) f
 
-  pub appended-self : c ≢ p → K last′ prev′ c []
+  pub appended-self : c ≢ p → ChildrenAre last′ prev′ c []
   unfolding Chain Has
   appended-self d =
       attach-other (set last c noNode) prev last′ prev′ p c (omega (arith, cut)) (omega (arith, sp)) v c [] d (getD-set-same last c noNode 0 (omega (arith, sl))) (λ z. z)

@@ -2,9 +2,9 @@
 use Prim.Native.Nat.{ℕ, _+_, _≤_, _<_}
 use mathlib.Core.Path.{_≡_}
 use lib.ListN.{length}
-use Rattle.tree.specs.Limits.{mostNodes, noNode, reach}
 use Rattle.geometry.specs.declared.Point.{Point}
 use Rattle.geometry.specs.Laws.{Within}
+use Rattle.tree.specs.Limits.{mostNodes, noNode, reach}
 use Rattle.tree.specs.Tree.{Tree}
 use Rattle.tree.specs.Route.{join}
 use Rattle.tree.specs.WellFormed.{WellFormed, Fits}
@@ -20,7 +20,7 @@ pub record Stores (t : Tree) (k : Counts) (c : Columns) : Type 0 where
   pub terminal : t .nextTerminal ≡ k .terminal .0
   pub keeps : Keeps (t .nodes) c
 
--- before: a well-formed tree stands in the columns, with room for more nodes
+-- before: a well-formed tree for which When holds stands in the columns, with room for more nodes; q is to join it
 pub record Standing (When : Tree → Type 0) (more : ℕ) (q : Point) (k : Counts) (c : Columns) : Type 0 where
   pub tree : Tree
   pub formed : WellFormed tree
@@ -32,7 +32,7 @@ pub record Standing (When : Tree → Type 0) (more : ℕ) (q : Point) (k : Count
   pub steiner : k .steiner .0 < noNode
   pub within : Within reach q
 
--- after: whatever well-formed tree stood there, the tree with the step taken stands there
+-- after: whatever well-formed tree for which When holds stood there, the tree with the step taken stands there
 pub record Grows (When : Tree → Type 0) (step : Tree → Tree) (k : Counts) (c : Columns) (k′ : Counts) (c′ : Columns) : Type 0 where
   pub stores : (t : Tree) → WellFormed t → When t → Stores t k c → Stores (step t) k′ c′
   pub sized : Sized (length (c .rows .xs)) c′
@@ -41,9 +41,10 @@ pub record Grows (When : Tree → Type 0) (step : Tree → Tree) (k : Counts) (c
 abbrev pub Anything : Tree → Type 0
 Anything t = Unit {0}
 
--- at a given place
+-- the place is in the tree
 abbrev pub At : Join → Tree → Type 0
 At j t = Fits (t .nodes) (joinOf j)
 
+-- a terminal at q has joined at the place
 abbrev pub Joined : Join → Point → Counts → Columns → Counts → Columns → Type 0
 Joined j q = Grows (At j) (λ t. join t q (joinOf j))

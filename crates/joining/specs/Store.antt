@@ -1,5 +1,5 @@
 -- A tree kept in columns: rows of numbers, and two columns of links. noNode stands for no node.
-use Prim.Native.Nat.{ℕ, zero, suc, _+_, _≤_, _<_}
+use Prim.Native.Nat.{ℕ, zero, suc, _≤_, _<_}
 use mathlib.Core.Path.{_≡_}
 use mathlib.Core.Bool.{cond}
 use mathlib.Core.List.{List, [], _∷_, _++_, reverse}
@@ -8,9 +8,10 @@ use lib.Dec.{eqb}
 use lib.IntN.{ℤ, pos}
 use Rattle.tree.specs.Limits.{noNode}
 use Rattle.tree.specs.Tree.{zeroFigure, Node, Name, source, steiner, terminal, Parent, none, at, nodeAt}
-use Rattle.search.specs.Search.{nodeIndex}
-use Rattle.search.specs.Columns.{chain, Chain}
+use Rattle.search.specs.Walk.{nodeIndex}
+use Rattle.search.specs.Columns.{chain}
 use Rattle.joining.specs.declared.Row.{Row}
+use Rattle.joining.specs.Links.{ChildrenAre}
 
 pub record Rows : Type 0 where
   pub xs : List ℤ
@@ -98,4 +99,4 @@ pub record Sized (m : ℕ) (c : Columns) : Type 0 where
 -- the columns keep the nodes
 pub record Keeps (ns : List Node) (c : Columns) : Type 0 where
   pub rows : (i : ℕ) → i < length ns → nodeAt ns i ≡ nodeFrom (rowAt (c .rows) i) (nodeAt ns i .children)
-  pub chains : (p : ℕ) → p < length ns → Chain (c .prev) (getD (c .last) p 0) (reverse (nodeAt ns p .children))
+  pub children : (p : ℕ) → p < length ns → ChildrenAre (c .last) (c .prev) p (nodeAt ns p .children)

@@ -6,14 +6,15 @@ use tree::SteinerNumber;
 use tree::TerminalNumber;
 ghost use mathlib.Core.Path.{_≡_};
 ghost use Prim.Native.Nat.{ℕ, _+_, _<_, _≤_};
-ghost use lib.ListN.{length};
+ghost use lib.ListN.{length, getD};
 ghost use Rattle.tree.specs.Limits.{noNode, reach};
 ghost use Rattle.tree.specs.WellFormed.{newNodes};
 ghost use Rattle.geometry.specs.Laws.{Within};
-ghost use Rattle.search.specs.Search.{spotAt};
+ghost use Rattle.search.specs.Walk.{viewAt};
+ghost use Rattle.search.specs.Columns.{Has, Linked, chain};
 ghost use Rattle.search.specs.Find.{joinOf};
 ghost use Rattle.joining.specs.Store.{Rows, rowsOf, columns, setRow, SizedRows};
-ghost use Rattle.joining.specs.Moves.{Appended, Adopted, Spliced, Spliceable};
+ghost use Rattle.joining.specs.Links.{beforeOf, Attached, Detached, Appended, Adopted, Spliced, Spliceable};
 ghost use Rattle.joining.specs.Join.{terminalRow, pathBelow, splitRows, oneMore, twoMore, Reads, Attachable, RowAttached, withSplit, SplitReads, Splittable, BranchSplit};
 ghost use Rattle.joining.specs.Standing.{Standing, At, Joined};
 
@@ -52,16 +53,16 @@ fn terminal_row<'a>(
 ) -> Row
     requires { ⌜ Reads (now xs) (now ys) (now path) (p .0) ⌝ }
     requires { ⌜ Within reach q ⌝ }
-    ensures { λ r. ⌜ r ≡ terminalRow (p .0) q (pathBelow (spotAt (now (xs .entry)) (now (ys .entry)) (now (path .entry)) (p .0)) q) (number .0) ⌝ }
+    ensures { λ r. ⌜ r ≡ terminalRow (p .0) q (pathBelow (viewAt (now (xs .entry)) (now (ys .entry)) (now (path .entry)) (p .0)) q) (number .0) ⌝ }
 {
-    let at = search::spot_at(xs, ys, path, p);
+    let at = search::view_at(xs, ys, path, p);
     let a = at.point;
     let d = search::distance(a, q);
     Row {
         point: q,
         path: at.path + d,
         parent: p,
-        kind: 2,
+        kind: tree::TERMINAL,
         number: number.0,
     }
 }
@@ -80,10 +81,10 @@ fn split_rows<'a>(
     requires { ⌜ Reads (now xs) (now ys) (now path) (c .0) ⌝ }
     requires { ⌜ Within reach q ⌝ }
     requires { ⌜ k .nodes < noNode ⌝ }
-    ensures { λ r. ⌜ r ≡ splitRows k (spotAt (now (xs .entry)) (now (ys .entry)) (now (path .entry)) (p .0)) (spotAt (now (xs .entry)) (now (ys .entry)) (now (path .entry)) (c .0)) q ⌝ }
+    ensures { λ r. ⌜ r ≡ splitRows k (viewAt (now (xs .entry)) (now (ys .entry)) (now (path .entry)) (p .0)) (viewAt (now (xs .entry)) (now (ys .entry)) (now (path .entry)) (c .0)) q ⌝ }
 {
-    let at = search::spot_at(xs, ys, path, p);
-    let to = search::spot_at(xs, ys, path, c);
+    let at = search::view_at(xs, ys, path, p);
+    let to = search::view_at(xs, ys, path, c);
     let a = at.point;
     let b = to.point;
     let n = search::nearest_on(a, b, q);
@@ -94,14 +95,14 @@ fn split_rows<'a>(
         point: q,
         path: at.path + d + e,
         parent: s,
-        kind: 2,
+        kind: tree::TERMINAL,
         number: k.terminal.0,
     };
     let steiner = Row {
         point: n,
         path: at.path + d,
         parent: p,
-        kind: 1,
+        kind: tree::STEINER,
         number: k.steiner.0,
     };
     SplitRows {
@@ -165,6 +166,57 @@ fn store_split(
 
 // ---- links
 
+// c goes last among p's children.
+pub fn attach_last(last: &mut [u16], prev: &mut [u16], p: NodeIndex, c: NodeIndex)
+    requires { ⌜ (p .0 < length (now last)) × (c .0 < length (now prev)) ⌝ }
+    ensures { λ r. ⌜ Attached (now (last .entry)) (now (prev .entry)) (p .0) (c .0) (now (last .exit)) (now (prev .exit)) ⌝ }
+{
+    let i = search::wide(p.0);
+    let j = search::wide(c.0);
+    prev[j] = last[i];
+    last[i] = c.0;
+}
+
+// The child that stands before c in a chain of links.
+fn child_before(prev: &[u16], first: u16, c: NodeIndex) -> NodeIndex
+    requires { ⌜ length (now prev) ≤ noNode ⌝ }
+    requires { ⌜ Linked (now prev) first ⌝ }
+    requires { ⌜ Has (c .0) (chain (now prev) first) ⌝ }
+    requires { ⌜ (first ≡ c .0 → ⊥) ⌝ }
+    ensures { λ r. ⌜ (r .0 ≡ beforeOf (chain (now (prev .entry)) first) (c .0)) × (r .0 < length (now (prev .entry))) ⌝ }
+{
+    let k = search::wide(first);
+    let mut d = first;
+    let mut e = prev[k];
+    while e != c.0 {
+        let i = search::wide(e);
+        d = e;
+        e = prev[i];
+    }
+    NodeIndex(d)
+}
+
+// c leaves p's children.
+pub fn detach(last: &mut [u16], prev: &mut [u16], p: NodeIndex, c: NodeIndex)
+    requires { ⌜ length (now prev) ≤ noNode ⌝ }
+    requires { ⌜ (p .0 < length (now last)) × (c .0 < length (now prev)) ⌝ }
+    requires { ⌜ Linked (now prev) (getD (now last) (p .0) 0) ⌝ }
+    requires { ⌜ Has (c .0) (chain (now prev) (getD (now last) (p .0) 0)) ⌝ }
+    ensures { λ r. ⌜ Detached (now (last .entry)) (now (prev .entry)) (p .0) (c .0) (now (last .exit)) (now (prev .exit)) ⌝ }
+{
+    let i = search::wide(p.0);
+    let j = search::wide(c.0);
+    let first = last[i];
+    let next = prev[j];
+    if first == c.0 {
+        last[i] = next;
+        return;
+    }
+    let d = child_before(prev, first, c);
+    let k = search::wide(d.0);
+    prev[k] = next;
+}
+
 // c, which has no children yet, goes last among p's.
 pub fn append_child(last: &mut [u16], prev: &mut [u16], p: NodeIndex, c: NodeIndex)
     requires { ⌜ ((p .0 < length (now last)) × (c .0 < length (now last))) × (c .0 < length (now prev)) ⌝ }
@@ -172,7 +224,7 @@ pub fn append_child(last: &mut [u16], prev: &mut [u16], p: NodeIndex, c: NodeInd
 {
     let i = search::wide(c.0);
     last[i] = tree::NO_NODE;
-    search::attach_last(last, prev, p, c);
+    attach_last(last, prev, p, c);
 }
 
 // s takes c and then i, which has no children yet.
@@ -180,7 +232,7 @@ pub fn adopt(last: &mut [u16], prev: &mut [u16], s: NodeIndex, c: NodeIndex, i: 
     requires { ⌜ ((s .0 < length (now last)) × (i .0 < length (now last))) × ((c .0 < length (now prev)) × (i .0 < length (now prev))) ⌝ }
     ensures { λ r. ⌜ Adopted (now (last .entry)) (now (prev .entry)) (s .0) (c .0) (i .0) (now (last .exit)) (now (prev .exit)) ⌝ }
 {
-    search::attach_last(last, prev, s, c);
+    attach_last(last, prev, s, c);
     append_child(last, prev, s, i);
 }
 
@@ -196,7 +248,7 @@ pub fn splice(
     requires { ⌜ Spliceable (now last) (now prev) (p .0) (c .0) (i .0) (s .0) ⌝ }
     ensures { λ r. ⌜ Spliced (now (last .entry)) (now (prev .entry)) (p .0) (c .0) (i .0) (s .0) (now (last .exit)) (now (prev .exit)) ⌝ }
 {
-    search::detach(last, prev, p, c);
+    detach(last, prev, p, c);
     append_child(last, prev, p, s);
     adopt(last, prev, s, c, i);
 }

@@ -15,14 +15,13 @@ ghost use Rattle.tree.specs.Memory.{nameIn, parentIn, nodeIn};
 ghost use Rattle.joining.specs.Store.{rowsOf, rowAt, SizedRows, nameFrom, parentFrom, nodeFrom};
 ghost use Rattle.nodes.specs.Nodes.{blankNode, Packs};
 
-// Kind 0 is the source, 1 a Steiner node, 2 a terminal.
 fn name_of(kind: u8, number: u16) -> NodeName
     ensures { λ r. ⌜ nameIn r ≡ nameFrom kind number ⌝ }
 {
-    if kind == 0 {
+    if kind == tree::SOURCE {
         return NodeName::Source;
     }
-    if kind == 1 {
+    if kind == tree::STEINER {
         return NodeName::Steiner(SteinerNumber(number));
     }
     NodeName::Terminal(TerminalNumber(number))

@@ -14,8 +14,8 @@ use Rattle.tree.specs.Route.{inserts, rooted, sort, farthest, route}
 use Rattle.tree.specs.WellFormed.{WellFormed, Counted}
 use Rattle.job.specs.declared.Mode.{Mode}
 use Rattle.job.specs.declared.Mode.the-variants.{Simple, Steiners, Constraints}
-use Rattle.search.specs.declared.Ask.{Ask}
-use Rattle.search.specs.Search.{rectsOf}
+use Rattle.search.specs.declared.Query.{Query}
+use Rattle.search.specs.Branch.{keepoutsOf}
 use Rattle.sorting.specs.Points.{pt, seg, Even, Sorted}
 use Rattle.sorting.proofs.Moves.{seg-append}
 use Rattle.joining.specs.declared.Counts.{Counts}
@@ -54,41 +54,41 @@ farthest-bound {px} {py} {s} v = far s (pt px py) (v .source) 0 (length px) (λ 
 
 -- ---- what a mode chooses
 module _ (s : Point) (w : ℕ) where
-  from-source : (mode : Mode) → choiceOf mode s w .ask .q ≡ s
+  from-source : (mode : Mode) → choiceOf mode s w .query .point ≡ s
   from-source Simple = refl
   from-source Steiners = refl
   from-source (Constraints m) = refl
 
-  limit-small : (mode : Mode) → w ≤ across → choiceOf mode s w .ask .limit ≤ noLimit
+  limit-small : (mode : Mode) → w ≤ across → choiceOf mode s w .query .limit ≤ noLimit
   limit-small Simple h = omega arith
   limit-small Steiners h = omega arith
   limit-small (Constraints m) h = omega arith
 
   -- the definition's route, by that choice
   by-choice : (mode : Mode) (ks : List ℤ) (ts : List Point) → w ≡ farthest s ts
-      → inserts (stepOf (choiceOf mode s w .way) ks) (sort s ts) (rooted (choiceOf mode s w .ask .q) (choiceOf mode s w .ask .allowed) w (choiceOf mode s w .ask .limit))
-      ≡ route (wayOf mode) s ts (rectsOf ks)
+      → inserts (stepOf (choiceOf mode s w .way) ks) (sort s ts) (rooted (choiceOf mode s w .query .point) (choiceOf mode s w .query .allowed) w (choiceOf mode s w .query .limit))
+      ≡ route (wayOf mode) s ts (keepoutsOf ks)
   by-choice Simple ks ts e = ap (λ (v : ℕ). inserts (stepOf (choiceOf Simple s v .way) ks) (sort s ts) (rooted s (pos noLimit) v noLimit)) e
   by-choice Steiners ks ts e = ap (λ (v : ℕ). inserts (stepOf (choiceOf Steiners s v .way) ks) (sort s ts) (rooted s (pos noLimit) v noLimit)) e
-  by-choice (Constraints m) ks ts e = ap (λ (v : ℕ). inserts (stepOf (choiceOf (Constraints m) s v .way) ks) (sort s ts) (rooted s (choiceOf (Constraints m) s v .ask .allowed) v v)) e
+  by-choice (Constraints m) ks ts e = ap (λ (v : ℕ). inserts (stepOf (choiceOf (Constraints m) s v .way) ks) (sort s ts) (rooted s (choiceOf (Constraints m) s v .query .allowed) v v)) e
 
 -- ---- the call
 module _ (ks px py : List ℤ) (s : Point) (mode : Mode) (v : Plannable px py s) (px′ py′ : List ℤ) (sorted : Sorted px py s px′ py′)
     (w : ℕ) (is-w : w ≡ farthest s (points px py)) (c : Choice) (is-c : c ≡ choiceOf mode s w) where
-  pub routable : (columns : Columns) → Sized (length (columns .rows .xs)) columns → 241 ≤ length (columns .rows .xs) → Routable px′ py′ (c .ask) columns
+  pub routable : (columns : Columns) → Sized (length (columns .rows .xs)) columns → 241 ≤ length (columns .rows .xs) → Routable px′ py′ (c .query) columns
   routable columns z h =
       record {
         sized = z;
         room = omega (arith, v .few, sorted .size);
         few = omega (arith, v .few, sorted .size);
         both = sorted .even .both;
-        source = subst (Within reach) (sym (ap (λ (x : Choice). x .ask .q) is-c ∙ from-source s w mode)) (v .source);
+        source = subst (Within reach) (sym (ap (λ (x : Choice). x .query .point) is-c ∙ from-source s w mode)) (v .source);
         near = sorted .even .near;
       }
 
-  module _ (t : Table) (of : Routed (c .way) ks px′ py′ (c .ask) (t .counts) (tableColumns t)) (size : length (t .xs) ≡ mostNodes)
-      (is-limit : t .limit ≡ c .ask .limit) (is-allowed : t .allowed ≡ c .ask .allowed) (is-farthest : t .farthest ≡ w) where
-    table-is : tableTree t ≡ treeOf (c .way) ks px′ py′ (c .ask) w (length px′)
+  module _ (t : Table) (of : Routed (c .way) ks px′ py′ (c .query) (t .counts) (tableColumns t)) (size : length (t .xs) ≡ mostNodes)
+      (is-limit : t .limit ≡ c .query .limit) (is-allowed : t .allowed ≡ c .query .allowed) (is-farthest : t .farthest ≡ w) where
+    table-is : tableTree t ≡ treeOf (c .way) ks px′ py′ (c .query) w (length px′)
     table-is =
         (λ i. record {
           nodes = tableTree t .nodes;
@@ -100,10 +100,10 @@ module _ (ks px py : List ℤ) (s : Point) (mode : Mode) (v : Plannable px py s)
         })
         ∙ of .tree w
 
-    tree-is : treeOf (c .way) ks px′ py′ (c .ask) w (length px′) ≡ route (wayOf mode) s (points px py) (rectsOf ks)
+    tree-is : treeOf (c .way) ks px′ py′ (c .query) w (length px′) ≡ route (wayOf mode) s (points px py) (keepoutsOf ks)
     unfolding treeOf
     tree-is =
-        (λ i. inserts (stepOf (is-c i .way) ks) ((upto-seg (pt px′ py′) (length px′) ∙ sorted .is) i) (rooted (is-c i .ask .q) (is-c i .ask .allowed) w (is-c i .ask .limit)))
+        (λ i. inserts (stepOf (is-c i .way) ks) ((upto-seg (pt px′ py′) (length px′) ∙ sorted .is) i) (rooted (is-c i .query .point) (is-c i .query .allowed) w (is-c i .query .limit)))
         ∙ by-choice s w mode ks (points px py) is-w
 
     low-w : w ≤ across
@@ -119,6 +119,6 @@ module _ (ks px py : List ℤ) (s : Point) (mode : Mode) (v : Plannable px py s)
           keeps = subst (λ (x : Tree). Keeps (x .nodes) (tableColumns t)) (sym table-is) (h .stores .keeps);
           sized = subst (λ (m : ℕ). Sized m (tableColumns t)) size (of .sized);
           next = of .next ∙ ap (λ (n : ℕ). n + 1) (sorted .size);
-          limit-small = omega (arith, is-limit, ap (λ (x : Choice). x .ask .limit) is-c, limit-small s w mode low-w);
+          limit-small = omega (arith, is-limit, ap (λ (x : Choice). x .query .limit) is-c, limit-small s w mode low-w);
           farthest-small = omega (arith, is-farthest, low-w);
         }

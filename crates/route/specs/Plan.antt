@@ -13,7 +13,7 @@ use Rattle.tree.specs.Route.{farthest, route}
 use Rattle.tree.specs.WellFormed.{WellFormed, Counted}
 use Rattle.job.specs.declared.Mode.{Mode}
 use Rattle.job.specs.declared.Mode.the-variants.{Simple, Steiners, Constraints}
-use Rattle.search.specs.Search.{rectsOf}
+use Rattle.search.specs.Branch.{keepoutsOf}
 use Rattle.sorting.specs.Points.{pt, seg, Even}
 use Rattle.inserting.specs.declared.Way.the-variants as W
 use Rattle.joining.specs.Store.{Columns, rowsOf, columns, nodesOf, Sized, Keeps}
@@ -27,9 +27,9 @@ points px py = seg (pt px py) 0 (length px)
 
 -- how a mode routes, with W: the way to join, the tree limit and the allowance
 abbrev pub choiceOf : Mode → Point → ℕ → Choice
-choiceOf Simple s w = record { way = W.Simple; ask = record { q = s; limit = noLimit; allowed = pos noLimit } }
-choiceOf Steiners s w = record { way = W.Search; ask = record { q = s; limit = noLimit; allowed = pos noLimit } }
-choiceOf (Constraints m) s w = record { way = W.Search; ask = record { q = s; limit = w; allowed = allowedOf w m } }
+choiceOf Simple s w = record { way = W.Simple; query = record { point = s; limit = noLimit; allowed = pos noLimit } }
+choiceOf Steiners s w = record { way = W.Search; query = record { point = s; limit = noLimit; allowed = pos noLimit } }
+choiceOf (Constraints m) s w = record { way = W.Search; query = record { point = s; limit = w; allowed = allowedOf w m } }
 
 abbrev pub tableColumns : Table → Columns
 tableColumns t = columns (rowsOf (t .xs) (t .ys) (t .path) (t .parent) (t .kind) (t .number)) (t .last) (t .prev)
@@ -52,7 +52,7 @@ pub record Plannable (px py : List ℤ) (s : Point) : Type 0 where
 
 -- the table is the tree that the definition gives, and keeps it well-formed
 pub record Planned (ks px py : List ℤ) (s : Point) (mode : Mode) (t : Table) : Type 0 where
-  pub tree : tableTree t ≡ route (wayOf mode) s (points px py) (rectsOf ks)
+  pub tree : tableTree t ≡ route (wayOf mode) s (points px py) (keepoutsOf ks)
   pub formed : WellFormed (tableTree t)
   pub counted : Counted (tableTree t)
   pub keeps : Keeps (tableTree t .nodes) (tableColumns t)

@@ -3,7 +3,7 @@ use geometry::Point;
 use inserting::Way;
 use job::Mode;
 use joining::Counts;
-use search::Ask;
+use search::Query;
 ghost use mathlib.Core.Path.{_≡_};
 ghost use Prim.Native.Nat.{max};
 ghost use Rattle.geometry.specs.Laws.{Within};
@@ -31,7 +31,7 @@ pub struct Table {
 // How a mode routes: the way to join, the tree limit and the allowance.
 pub struct Choice {
     pub way: Way,
-    pub ask: Ask,
+    pub query: Query,
 }
 
 fn larger(a: u32, b: u32) -> u32
@@ -58,29 +58,29 @@ fn farthest<'a>(px: &'a [i32], py: &'a [i32], s: Point) -> u32
 fn choose(mode: Mode, s: Point, w: u32) -> Choice
     ensures { λ r. ⌜ r ≡ choiceOf mode s w ⌝ }
 {
-    let free = Ask {
-        q: s,
+    let free = Query {
+        point: s,
         limit: tree::NO_LIMIT,
         allowed: 2147483647,
     };
     match mode {
         Mode::Simple => Choice {
             way: Way::Simple,
-            ask: free,
+            query: free,
         },
         Mode::Steiners => Choice {
             way: Way::Search,
-            ask: free,
+            query: free,
         },
         Mode::Constraints(m) => {
-            let bound = Ask {
-                q: s,
+            let bound = Query {
+                point: s,
                 limit: w,
                 allowed: allowance::allowed(w, m),
             };
             Choice {
                 way: Way::Search,
-                ask: bound,
+                query: bound,
             }
         }
     }
@@ -95,7 +95,7 @@ pub fn plan(px: &mut [i32], py: &mut [i32], ks: &[i32], s: Point, mode: Mode) ->
     sorting::sort(px, py, s);
     let c = choose(mode, s, w);
     let way = c.way;
-    let ask = c.ask;
+    let query = c.query;
     let mut xs = [0i32; tree::MOST_NODES];
     let mut ys = [0i32; tree::MOST_NODES];
     let mut path = [0u32; tree::MOST_NODES];
@@ -117,7 +117,7 @@ pub fn plan(px: &mut [i32], py: &mut [i32], ks: &[i32], s: Point, mode: Mode) ->
         py,
         ks,
         way,
-        ask,
+        query,
     );
     Table {
         xs: xs,
@@ -129,8 +129,8 @@ pub fn plan(px: &mut [i32], py: &mut [i32], ks: &[i32], s: Point, mode: Mode) ->
         last: last,
         prev: prev,
         counts: k,
-        limit: ask.limit,
-        allowed: ask.allowed,
+        limit: query.limit,
+        allowed: query.allowed,
         farthest: w,
     }
 }

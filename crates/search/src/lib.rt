@@ -1,22 +1,22 @@
-// The search for an insertion point, on lent columns.
+// The search for an insertion point (`_find_insertion_point`), on lent columns: a column for each coordinate, one for path lengths,
+// and two of links, from a node to its last child and from a child to the one before it.
 use geometry::Interval;
 use geometry::Point;
 use geometry::Rectangle;
 use tree::NodeIndex;
 ghost use mathlib.Core.Path.{_≡_};
-ghost use mathlib.Core.Bool.{Bool, _&&_};
-ghost use Prim.Native.Nat.{ℕ, _+_, _*_, _<_, _≤_, max};
+ghost use Prim.Native.Nat.{_+_, _<_, _≤_, max};
 ghost use lib.IntN.{pos};
 ghost use lib.Signed.{leZ};
-ghost use lib.ListN.{length, getD, take, set};
-ghost use Rattle.tree.specs.Limits.{mostNodes, noNode, reach};
+ghost use lib.ListN.{length};
+ghost use Rattle.tree.specs.Limits.{reach};
 ghost use Rattle.geometry.specs.Laws.{Within};
 ghost use Rattle.geometry.specs.Geometry.{dist};
 ghost use Rattle.tree.specs.Search.{nearestOn};
-ghost use Rattle.search.specs.Search.{takeIt, joinAt, offer, rectAt, rectsOf, shut, shutBy, Near, examineOne, either, pointAt, spotAt, start};
-ghost use Rattle.search.specs.Moves.{beforeOf, Attached, Detached};
-ghost use Rattle.search.specs.Whole.{Ready, Joins};
-ghost use Rattle.search.specs.Columns.{Has, Fair, InReach, Linked, chain, Pushes, Sound, SafeOn, foundOn};
+ghost use Rattle.search.specs.Branch.{takeIt, joinAt, judge, keepoutAt, keepoutsOf, blockedBy, stopsBy, Near, examineBranch, either};
+ghost use Rattle.search.specs.Walk.{pointAt, viewAt};
+ghost use Rattle.search.specs.Columns.{NearChildren, InReach, Linked, chain, Pushes, TreeColumns, SafeOn, foundOn};
+ghost use Rattle.search.specs.Find.{Ready, Joins};
 
 // Where a point joins: at a node, or on the branch from a node to its child.
 pub enum Join {
@@ -24,33 +24,35 @@ pub enum Join {
     Split(NodeIndex, NodeIndex),
 }
 
+// What the search has found so far: the place, its distance, and whether a branch has had L ≤ allowed.
 pub struct Best {
     pub join: Join,
     pub best: u32,
-    pub valid: bool,
+    pub within: bool,
 }
 
-pub struct Ask {
-    pub q: Point,
+// What is searched for: the point that is to join, the tree limit and the allowance.
+pub struct Query {
+    pub point: Point,
     pub limit: u32,
     pub allowed: i32,
 }
 
 // A node with what the search reads of it.
-pub struct Spot {
+pub struct NodeView {
     pub node: NodeIndex,
     pub point: Point,
     pub path: u32,
 }
 
-// The best so far, and the height of the stack.
+// What is found, and the height of the stack.
 pub struct Pushed {
     pub found: Best,
     pub top: usize,
 }
 
-// A branch examined: whether it is clear, and the best with it.
-pub struct Step {
+// A branch examined: what is found with it, and whether no keepout blocks it.
+pub struct Examined {
     pub found: Best,
     pub clear: bool,
 }
@@ -75,26 +77,27 @@ pub fn nearest_on(p: Point, c: Point, q: Point) -> Point
 // ---- one branch
 
 // L ≤ allowed
-fn within(l: u32, ask: Ask) -> bool
-    ensures { λ r. ⌜ r ≡ leZ (pos l) (ask .allowed) ⌝ }
+fn is_allowed(l: u32, query: Query) -> bool
+    ensures { λ r. ⌜ r ≡ leZ (pos l) (query .allowed) ⌝ }
 {
-    if ask.allowed < 0 {
+    if query.allowed < 0 {
         return false;
     }
-    let a = ask.allowed as u32;
+    let a = query.allowed as u32;
     l <= a
 }
 
+// The take rule; w says L ≤ allowed.
 fn takes(w: bool, d: u32, l: u32, limit: u32, b: Best) -> bool
     ensures { λ r. ⌜ r ≡ takeIt w d l limit b ⌝ }
 {
     if w {
-        if b.valid {
+        if b.within {
             return d < b.best;
         }
         return true;
     }
-    if b.valid {
+    if b.within {
         return false;
     }
     if l <= limit {
@@ -103,7 +106,8 @@ fn takes(w: bool, d: u32, l: u32, limit: u32, b: Best) -> bool
     false
 }
 
-fn join_at(n: Point, at: Spot, to: Spot) -> Join
+// Where the point joins on the branch whose nearest point is n.
+fn join_at(n: Point, at: NodeView, to: NodeView) -> Join
     ensures { λ r. ⌜ r ≡ joinAt n at to ⌝ }
 {
     let p = at.point;
@@ -119,6 +123,7 @@ fn join_at(n: Point, at: Spot, to: Spot) -> Join
     Join::Split(i, j)
 }
 
+// a || b, of two values that are at hand.
 fn either(a: bool, b: bool) -> bool
     ensures { λ r. ⌜ r ≡ either a b ⌝ }
 {
@@ -129,24 +134,24 @@ fn either(a: bool, b: bool) -> bool
 }
 
 // The best with an unblocked branch, whose nearest point is n.
-fn offered(ask: Ask, at: Spot, to: Spot, n: Point, b: Best) -> Best
-    requires { ⌜ Near ask at to ⌝ }
+fn judge(query: Query, at: NodeView, to: NodeView, n: Point, b: Best) -> Best
+    requires { ⌜ Near query at to ⌝ }
     requires { ⌜ Within reach n ⌝ }
-    ensures { λ r. ⌜ r ≡ offer ask at to n b ⌝ }
+    ensures { λ r. ⌜ r ≡ judge query at to n b ⌝ }
 {
-    let q = ask.q;
+    let q = query.point;
     let p = at.point;
     let d = distance(n, q);
     let e = distance(p, n);
     let l = at.path + e + d;
-    let w = within(l, ask);
-    if takes(w, d, l, ask.limit, b) {
+    let w = is_allowed(l, query);
+    if takes(w, d, l, query.limit, b) {
         let j = join_at(n, at, to);
-        let v = either(w, b.valid);
+        let v = either(w, b.within);
         return Best {
             join: j,
             best: d,
-            valid: v,
+            within: v,
         };
     }
     b
@@ -154,8 +159,9 @@ fn offered(ask: Ask, at: Spot, to: Spot, n: Point, b: Best) -> Best
 
 // ---- keepouts
 
-fn shut_by(k: Rectangle, n: Point, a: Rectangle, b: Rectangle, c: Rectangle) -> bool
-    ensures { λ r. ⌜ r ≡ shutBy k n a b c ⌝ }
+// One keepout against the nearest point n and the boxes of n with the point, P and C.
+fn stops(k: Rectangle, n: Point, a: Rectangle, b: Rectangle, c: Rectangle) -> bool
+    ensures { λ r. ⌜ r ≡ stopsBy k n a b c ⌝ }
 {
     if k.contains(n) {
         return true;
@@ -169,9 +175,10 @@ fn shut_by(k: Rectangle, n: Point, a: Rectangle, b: Rectangle, c: Rectangle) -> 
     k.blocks(c)
 }
 
-fn rect_at(ks: &[i32], i: usize) -> Rectangle
+// The keepout whose four numbers start at i.
+fn keepout_at(ks: &[i32], i: usize) -> Rectangle
     requires { ⌜ i + 4 ≤ length (now ks) ⌝ }
-    ensures { λ r. ⌜ r ≡ rectAt (now (ks .entry)) i ⌝ }
+    ensures { λ r. ⌜ r ≡ keepoutAt (now (ks .entry)) i ⌝ }
 {
     let x = Interval {
         lb: ks[i],
@@ -187,13 +194,14 @@ fn rect_at(ks: &[i32], i: usize) -> Rectangle
     }
 }
 
+// Whether any keepout stops the branch.
 fn blocked(ks: &[i32], n: Point, a: Rectangle, b: Rectangle, c: Rectangle) -> bool
-    ensures { λ r. ⌜ r ≡ shut (rectsOf (now (ks .entry))) n a b c ⌝ }
+    ensures { λ r. ⌜ r ≡ blockedBy (keepoutsOf (now (ks .entry))) n a b c ⌝ }
 {
     let mut i: usize = 0;
     while i + 4 <= ks.len() {
-        let k = rect_at(ks, i);
-        if shut_by(k, n, a, b, c) {
+        let k = keepout_at(ks, i);
+        if stops(k, n, a, b, c) {
             return true;
         }
         i = i + 4;
@@ -201,11 +209,12 @@ fn blocked(ks: &[i32], n: Point, a: Rectangle, b: Rectangle, c: Rectangle) -> bo
     false
 }
 
-fn examine(ks: &[i32], ask: Ask, at: Spot, to: Spot, b: Best) -> Step
-    requires { ⌜ Near ask at to ⌝ }
-    ensures { λ r. ⌜ r ≡ examineOne (rectsOf (now (ks .entry))) ask at to b ⌝ }
+// The branch from `at` to its child `to`: skipped when it is blocked.
+fn examine(ks: &[i32], query: Query, at: NodeView, to: NodeView, b: Best) -> Examined
+    requires { ⌜ Near query at to ⌝ }
+    ensures { λ r. ⌜ r ≡ examineBranch (keepoutsOf (now (ks .entry))) query at to b ⌝ }
 {
-    let q = ask.q;
+    let q = query.point;
     let p = at.point;
     let c = to.point;
     let n = nearest_on(p, c, q);
@@ -213,13 +222,13 @@ fn examine(ks: &[i32], ask: Ask, at: Spot, to: Spot, b: Best) -> Step
     let e = n.hull_with(p);
     let f = n.hull_with(c);
     if blocked(ks, n, a, e, f) {
-        return Step {
+        return Examined {
             found: b,
             clear: false,
         };
     }
-    let g = offered(ask, at, to, n, b);
-    Step {
+    let g = judge(query, at, to, n, b);
+    Examined {
         found: g,
         clear: true,
     }
@@ -227,6 +236,7 @@ fn examine(ks: &[i32], ask: Ask, at: Spot, to: Spot, b: Best) -> Step
 
 // ---- columns
 
+// A number of a column as an index.
 pub fn wide(x: u16) -> usize
     ensures { λ r. ⌜ r ≡ x ⌝ }
 {
@@ -244,26 +254,27 @@ pub fn point_at<'a>(xs: &'a [i32], ys: &'a [i32], i: usize) -> Point
     }
 }
 
-pub fn spot_at<'a>(xs: &'a [i32], ys: &'a [i32], path: &'a [u32], c: NodeIndex) -> Spot
+// What the search reads of a node.
+pub fn view_at<'a>(xs: &'a [i32], ys: &'a [i32], path: &'a [u32], c: NodeIndex) -> NodeView
     requires { ⌜ InReach (now xs) (now ys) (now path) (c .0) ⌝ }
-    ensures { λ r. ⌜ r ≡ spotAt (now (xs .entry)) (now (ys .entry)) (now (path .entry)) (c .0) ⌝ }
+    ensures { λ r. ⌜ r ≡ viewAt (now (xs .entry)) (now (ys .entry)) (now (path .entry)) (c .0) ⌝ }
 {
     let i = wide(c.0);
     let p = point_at(xs, ys, i);
-    Spot {
+    NodeView {
         node: c,
         point: p,
         path: path[i],
     }
 }
 
-// The children of a node, from the last to the first.
-fn children<'a>(
+// The branches to a node's children, from the last child to the first; each child whose branch is not blocked is pushed.
+fn examine_children<'a>(
     stack: &mut [u16],
     from: usize,
     b: Best,
-    ask: Ask,
-    at: Spot,
+    query: Query,
+    at: NodeView,
     first: u16,
     xs: &'a [i32],
     ys: &'a [i32],
@@ -271,17 +282,17 @@ fn children<'a>(
     prev: &'a [u16],
     ks: &'a [i32],
 ) -> Pushed
-    requires { ⌜ Fair ask at (now xs) (now ys) (now path) (now prev) (chain (now prev) first) ⌝ }
+    requires { ⌜ NearChildren query at (now xs) (now ys) (now path) (now prev) (chain (now prev) first) ⌝ }
     requires { ⌜ Linked (now prev) first ⌝ }
     requires { ⌜ from + length (chain (now prev) first) ≤ length (now stack) ⌝ }
-    ensures { λ r. ⌜ Pushes (rectsOf (now (ks .entry))) ask at (spotAt (now (xs .entry)) (now (ys .entry)) (now (path .entry))) (chain (now (prev .entry)) first) b (now (stack .entry)) from (r .found) (now (stack .exit)) (r .top) ⌝ }
+    ensures { λ r. ⌜ Pushes (keepoutsOf (now (ks .entry))) query at (viewAt (now (xs .entry)) (now (ys .entry)) (now (path .entry))) (chain (now (prev .entry)) first) b (now (stack .entry)) from (r .found) (now (stack .exit)) (r .top) ⌝ }
 {
     let mut found = b;
     let mut top = from;
     let mut c = first;
     while c != tree::NO_NODE {
-        let to = spot_at(xs, ys, path, NodeIndex(c));
-        let step = examine(ks, ask, at, to, found);
+        let to = view_at(xs, ys, path, NodeIndex(c));
+        let step = examine(ks, query, at, to, found);
         let f = step.found;
         found = f;
         if step.clear {
@@ -297,17 +308,18 @@ fn children<'a>(
     }
 }
 
-fn least_one(x: u32) -> u32
+// max(x, 1)
+fn at_least_one(x: u32) -> u32
     ensures { λ r. ⌜ r ≡ max x 1 ⌝ }
 {
     if x < 1 { 1 } else { x }
 }
 
 // The walk from the source, with a stack that is lent. It takes at most as many turns as there are nodes.
-fn search<'a>(
+fn walk<'a>(
     stack: &mut [u16],
     n: usize,
-    ask: Ask,
+    query: Query,
     xs: &'a [i32],
     ys: &'a [i32],
     path: &'a [u32],
@@ -315,17 +327,17 @@ fn search<'a>(
     prev: &'a [u16],
     ks: &'a [i32],
 ) -> Join
-    requires { ⌜ Sound n ask (now xs) (now ys) (now path) (now last) (now prev) ⌝ }
+    requires { ⌜ TreeColumns n query (now xs) (now ys) (now path) (now last) (now prev) ⌝ }
     requires { ⌜ 0 < length (now stack) ⌝ }
-    requires { ⌜ SafeOn (length (now stack)) n ask (now xs) (now ys) (now path) (now last) (now prev) (now ks) ⌝ }
-    ensures { λ r. ⌜ r ≡ foundOn n ask (now (xs .entry)) (now (ys .entry)) (now (path .entry)) (now (last .entry)) (now (prev .entry)) (now (ks .entry)) ⌝ }
+    requires { ⌜ SafeOn (length (now stack)) n query (now xs) (now ys) (now path) (now last) (now prev) (now ks) ⌝ }
+    ensures { λ r. ⌜ r ≡ foundOn n query (now (xs .entry)) (now (ys .entry)) (now (path .entry)) (now (last .entry)) (now (prev .entry)) (now (ks .entry)) ⌝ }
 {
-    let m = least_one(ask.limit);
+    let m = at_least_one(query.limit);
     let source = NodeIndex(0);
     let mut found = Best {
         join: Join::Onto(source),
         best: m,
-        valid: false,
+        within: false,
     };
     stack[0] = 0;
     let mut top: usize = 1;
@@ -333,10 +345,10 @@ fn search<'a>(
     while 0 < top {
         top = top - 1;
         let p = stack[top];
-        let at = spot_at(xs, ys, path, NodeIndex(p));
+        let at = view_at(xs, ys, path, NodeIndex(p));
         let i = wide(p);
         let first = last[i];
-        let r = children(stack, top, found, ask, at, first, xs, ys, path, prev, ks);
+        let r = examine_children(stack, top, found, query, at, first, xs, ys, path, prev, ks);
         let f = r.found;
         found = f;
         top = r.top;
@@ -346,10 +358,10 @@ fn search<'a>(
     j
 }
 
-// The search with a stack of its own.
-fn find<'a>(
+// Where the search over a tree of n nodes has the point join.
+pub fn find_insertion_point<'a>(
     n: usize,
-    ask: Ask,
+    query: Query,
     xs: &'a [i32],
     ys: &'a [i32],
     path: &'a [u32],
@@ -357,80 +369,9 @@ fn find<'a>(
     prev: &'a [u16],
     ks: &'a [i32],
 ) -> Join
-    requires { ⌜ Sound n ask (now xs) (now ys) (now path) (now last) (now prev) ⌝ }
-    requires { ⌜ SafeOn mostNodes n ask (now xs) (now ys) (now path) (now last) (now prev) (now ks) ⌝ }
-    ensures { λ r. ⌜ r ≡ foundOn n ask (now (xs .entry)) (now (ys .entry)) (now (path .entry)) (now (last .entry)) (now (prev .entry)) (now (ks .entry)) ⌝ }
+    requires { ⌜ Ready n query (now xs) (now ys) (now path) (now last) (now prev) ⌝ }
+    ensures { λ r. ⌜ Joins n query (now (xs .entry)) (now (ys .entry)) (now (path .entry)) (now (last .entry)) (now (prev .entry)) (now (ks .entry)) r ⌝ }
 {
     let mut stack = [0u16; tree::MOST_NODES];
-    search(&mut stack, n, ask, xs, ys, path, last, prev, ks)
-}
-
-// ---- moving children
-
-// c goes last among p's children.
-pub fn attach_last(last: &mut [u16], prev: &mut [u16], p: NodeIndex, c: NodeIndex)
-    requires { ⌜ (p .0 < length (now last)) × (c .0 < length (now prev)) ⌝ }
-    ensures { λ r. ⌜ Attached (now (last .entry)) (now (prev .entry)) (p .0) (c .0) (now (last .exit)) (now (prev .exit)) ⌝ }
-{
-    let i = wide(p.0);
-    let j = wide(c.0);
-    prev[j] = last[i];
-    last[i] = c.0;
-}
-
-// The child that stands before c in a chain of links.
-fn before(prev: &[u16], first: u16, c: NodeIndex) -> NodeIndex
-    requires { ⌜ length (now prev) ≤ noNode ⌝ }
-    requires { ⌜ Linked (now prev) first ⌝ }
-    requires { ⌜ Has (c .0) (chain (now prev) first) ⌝ }
-    requires { ⌜ (first ≡ c .0 → ⊥) ⌝ }
-    ensures { λ r. ⌜ (r .0 ≡ beforeOf (chain (now (prev .entry)) first) (c .0)) × (r .0 < length (now (prev .entry))) ⌝ }
-{
-    let k = wide(first);
-    let mut d = first;
-    let mut e = prev[k];
-    while e != c.0 {
-        let i = wide(e);
-        d = e;
-        e = prev[i];
-    }
-    NodeIndex(d)
-}
-
-// c leaves p's children.
-pub fn detach(last: &mut [u16], prev: &mut [u16], p: NodeIndex, c: NodeIndex)
-    requires { ⌜ length (now prev) ≤ noNode ⌝ }
-    requires { ⌜ (p .0 < length (now last)) × (c .0 < length (now prev)) ⌝ }
-    requires { ⌜ Linked (now prev) (getD (now last) (p .0) 0) ⌝ }
-    requires { ⌜ Has (c .0) (chain (now prev) (getD (now last) (p .0) 0)) ⌝ }
-    ensures { λ r. ⌜ Detached (now (last .entry)) (now (prev .entry)) (p .0) (c .0) (now (last .exit)) (now (prev .exit)) ⌝ }
-{
-    let i = wide(p.0);
-    let j = wide(c.0);
-    let first = last[i];
-    let next = prev[j];
-    if first == c.0 {
-        last[i] = next;
-        return;
-    }
-    let d = before(prev, first, c);
-    let k = wide(d.0);
-    prev[k] = next;
-}
-
-// The join that the search over the tree finds, for the columns of a tree of n nodes.
-pub fn join_of<'a>(
-    n: usize,
-    ask: Ask,
-    xs: &'a [i32],
-    ys: &'a [i32],
-    path: &'a [u32],
-    last: &'a [u16],
-    prev: &'a [u16],
-    ks: &'a [i32],
-) -> Join
-    requires { ⌜ Ready n ask (now xs) (now ys) (now path) (now last) (now prev) ⌝ }
-    ensures { λ r. ⌜ Joins n ask (now (xs .entry)) (now (ys .entry)) (now (path .entry)) (now (last .entry)) (now (prev .entry)) (now (ks .entry)) r ⌝ }
-{
-    find(n, ask, xs, ys, path, last, prev, ks)
+    walk(&mut stack, n, query, xs, ys, path, last, prev, ks)
 }

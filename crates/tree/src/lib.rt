@@ -16,6 +16,13 @@ pub const NO_LIMIT: u32 = 2147483647;
 // What stands for no node in a column of indices.
 pub const NO_NODE: u16 = 65535;
 
+// The kinds of node, as a column holds them.
+pub const SOURCE: u8 = 0;
+
+pub const STEINER: u8 = 1;
+
+pub const TERMINAL: u8 = 2;
+
 // A node's index, a Steiner number and a terminal number: none serves for another.
 pub struct NodeIndex(pub u16);
 

@@ -1,13 +1,10 @@
 -- `inserting::find_nearest_node`: each turn keeps the closer of the best so far and the next node.
 use Prim.Native.Nat.{_-_}
-use mathlib.Core.Path.{sym, subst, _∙_, ap}
+use mathlib.Core.Path.{sym, subst}
 use mathlib.Core.Logic.{⊎-elim}
 use native.Mathlib.Omega.{arith}
-use Rattle.tree.specs.Limits.{reach}
 use Rattle.geometry.specs.Laws.{Within}
-use Rattle.geometry.specs.Geometry.{dist}
-use Rattle.geometry.specs.declared.Point.{Point}
-use Rattle.search.specs.Search.{pointAt}
+use Rattle.tree.specs.Limits.{reach}
 use Rattle.inserting.proofs.Nearest.{Seeking, starts, closer, not-closer, ends}
 use Rattle.inserting.proofs.find_nearest_node.Statement.{statement}
 use Rattle.inserting.proofs.find_nearest_node.Tie as tie

@@ -1,7 +1,7 @@
 -- `inserting::insert_simple`: the closest node is in the tree, and a row with path 0 is attached below it.
+use native.Mathlib.Omega.{arith}
 use Rattle.joining.proofs.Placing.{next-counts}
 use Rattle.inserting.proofs.Inserting.{near-columns, may-simple, did-simple}
-use native.Mathlib.Omega.{arith}
 use Rattle.inserting.proofs.insert_simple.Statement.{statement}
 use Rattle.inserting.proofs.insert_simple.Tie as tie
 

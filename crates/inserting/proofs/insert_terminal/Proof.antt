@@ -16,11 +16,11 @@ enum-told-2 c = search needs
 wide-requires : tie.Need-wide-requires
 wide-requires c κs = search needs
 
-join-of-requires : tie.Need-join-of-requires
-join-of-requires c κs = ready _ (c .before .before .before .before .before .before .before .before .before .before .before .before .before .before .before .pre) _ (c .before .before .before .before .before .wide .ensures)
+find-insertion-point-requires : tie.Need-find-insertion-point-requires
+find-insertion-point-requires c κs = ready _ (c .before .before .before .before .before .before .before .before .before .before .before .before .before .before .before .pre) _ (c .before .before .before .before .before .wide .ensures)
 
 join-requires : tie.Need-join-requires
-join-requires c κs = by-search _ (c .before .before .before .before .before .before .before .before .before .before .before .before .before .before .before .before .before .before .before .before .before .before .before .before .pre) _ (c .before .before .before .before .before .before .before .before .before .before .before .before .before .before .wide .ensures) _ _ (c .before .before .before .before .before .before .before .before .join-of .ensures)
+join-requires c κs = by-search _ (c .before .before .before .before .before .before .before .before .before .before .before .before .before .before .before .before .before .before .before .before .before .before .before .before .pre) _ (c .before .before .before .before .before .before .before .before .before .before .before .before .before .before .wide .ensures) _ (c .before .before .before .before .before .before .before .before .find-insertion-point .result) (c .before .before .before .before .before .before .before .before .find-insertion-point .ensures)
 
 -- the places after the two calls
 abbrev simple : tie.After-slice-known12 → tie.After-insert-simple
@@ -81,7 +81,7 @@ same-length-16 : tie.Need-same-length-16
 same-length-16 c = joined c .join .kept .1 .1 .1 .1 .1 .1 .1 .0
 
 returns-2 : tie.Need-returns-2
-returns-2 c = did-search _ (c .before .before .before .before .before .before .before .before .before .before .before .before .before .before .before .before .before .before .before .before .before .before .before .before .before .before .before .before .before .before .before .before .before .before .before .before .before .before .before .pre) _ (c .before .before .before .before .before .before .before .before .before .before .before .before .before .before .before .before .before .before .before .before .before .before .before .before .before .before .before .before .before .wide .ensures) _ _ (c .before .before .before .before .before .before .before .before .before .before .before .before .before .before .before .before .before .before .before .before .before .before .before .join-of .ensures) _ (c .before .before .before .before .before .before .before .before .before .before .before .before .before .before .before .before .before .before .before .before .before .before .before .before .before .before .before .before .before .before .enum-told2 .given .1) _ _ (joined c .join .ensures)
+returns-2 c = did-search _ (c .before .before .before .before .before .before .before .before .before .before .before .before .before .before .before .before .before .before .before .before .before .before .before .before .before .before .before .before .before .before .before .before .before .before .before .before .before .before .before .pre) _ (c .before .before .before .before .before .before .before .before .before .before .before .before .before .before .before .before .before .before .before .before .before .before .before .before .before .before .before .before .before .wide .ensures) _ (c .before .before .before .before .before .before .before .before .before .before .before .before .before .before .before .before .before .before .before .before .before .before .before .find-insertion-point .result) (c .before .before .before .before .before .before .before .before .before .before .before .before .before .before .before .before .before .before .before .before .before .before .before .find-insertion-point .ensures) _ (c .before .before .before .before .before .before .before .before .before .before .before .before .before .before .before .before .before .before .before .before .before .before .before .before .before .before .before .before .before .before .enum-told2 .given .1) _ _ (joined c .join .ensures)
 
 pub insert-terminal-spec : {M : Type 1} → statement M
 insert-terminal-spec =
@@ -91,7 +91,7 @@ insert-terminal-spec =
     insert-simple-requires
     enum-told-2
     wide-requires
-    join-of-requires
+    find-insertion-point-requires
     join-requires
     same-length
     same-length-2

@@ -4,8 +4,7 @@ use mathlib.Core.Path.{refl, sym, _∙_}
 use native.Mathlib.Omega.{arith}
 use lib.ListN.{length}
 use Rattle.joining.specs.Store.{Columns, rowsOf, columns}
-use Rattle.inserting.specs.Route.{Under}
-use Rattle.inserting.proofs.Turning.{starts, stands, turn, ends}
+use Rattle.inserting.proofs.Turning.{Under, starts, stands, turn, ends}
 use Rattle.inserting.proofs.route_sorted.Statement.{statement}
 use Rattle.inserting.proofs.route_sorted.Tie as tie
 
@@ -27,7 +26,7 @@ here d = columns (rowsOf (d .loop .xs) (d .loop .ys) (d .loop .path) (d .loop .p
 abbrev entry : tie.At-loop Inv-loop μ-loop → tie.Start Inv-loop μ-loop
 entry c = c .before .before .before .before .before .before .before .before .before .before .before .before .before .before .before .before .before .before .before .before .before .before .before .before .before .before .before .before
 
-abbrev asked : tie.After-slice-known17 Inv-loop μ-loop → tie.After-ask-at Inv-loop μ-loop
+abbrev asked : tie.After-slice-known17 Inv-loop μ-loop → tie.After-query-at Inv-loop μ-loop
 asked c = c .before .before .before .before .before .before .before .before .before .before .before .before .before .before .before .before .before .before .before .before .before .before .before
 
 store-source-requires : tie.Need-store-source-requires Inv-loop μ-loop
@@ -39,14 +38,14 @@ loop-holds c =
     let e = c .before .before .before .before .before .before .before .before .before .before .before .before .store-source .ensures in
     starts (s .args .way) _ _ _ _ (cols s) (s .pre) _ (record { rows = e .0; last = e .1; prev = refl })
 
-ask-at-requires : tie.Need-ask-at-requires Inv-loop μ-loop
-ask-at-requires c κs = (c .loop-test .taken, omega (arith, c .loop-test .taken, c .before .before .before .before .before .before .before .before .before .before .before .before .before .before .before .before .before .before .before .before .before .before .before .before .before .before .before .before .before .pre .both))
+query-at-requires : tie.Need-query-at-requires Inv-loop μ-loop
+query-at-requires c κs = (c .loop-test .taken, omega (arith, c .loop-test .taken, c .before .before .before .before .before .before .before .before .before .before .before .before .before .before .before .before .before .before .before .before .before .before .before .before .before .before .before .before .before .pre .both))
 
 insert-terminal-requires : tie.Need-insert-terminal-requires Inv-loop μ-loop
 insert-terminal-requires c κs =
     let s = c .before .before .before .before .before .before .before .before .before .before .before .before .before .before .before .before .before .before .before .before .before .before .before .before .before .before .before .before .before .before .before .before .before .before .before .before .before .before in
     let d = c .before .before .before .before .before .before .before .before .before .before in
-    stands (s .args .way) _ _ _ _ (cols s) (s .pre) _ _ (here d) (d .loop .inv) (c .before .before .before .before .before .before .before .before .before .loop-test .taken) _ (c .before .before .before .before .before .before .before .before .ask-at .ensures)
+    stands (s .args .way) _ _ _ _ (cols s) (s .pre) _ _ (here d) (d .loop .inv) (c .before .before .before .before .before .before .before .before .before .loop-test .taken) _ (c .before .before .before .before .before .before .before .before .query-at .ensures)
 
 add-i : tie.Need-add-i Inv-loop μ-loop
 add-i c = omega (arith, asked c .before .loop-test .taken, c .before .before .before .before .before .before .before .before .before .before .before .before .before .before .before .before .before .before .before .before .before .before .before .before .before .before .before .before .before .before .before .before .before .before .before .before .before .before .before .before .before .before .before .before .before .before .before .before .before .before .before .before .before .pre .few)
@@ -59,7 +58,7 @@ loop-again c =
     let a = asked c in
     let d = a .before .before in
     let s = entry d in
-    turn (s .args .way) _ _ _ _ (cols s) (s .pre) _ _ (here d) (d .loop .inv) (a .before .loop-test .taken) _ (a .ask-at .ensures) _ _ (c .before .before .before .before .before .before .before .before .before .before .before .before .before .before .insert-terminal .ensures)
+    turn (s .args .way) _ _ _ _ (cols s) (s .pre) _ _ (here d) (d .loop .inv) (a .before .loop-test .taken) _ (a .query-at .ensures) _ _ (c .before .before .before .before .before .before .before .before .before .before .before .before .before .before .insert-terminal .ensures)
 
 same-length : tie.Need-same-length Inv-loop μ-loop
 same-length c = let z = entry (c .before) .pre .sized in c .before .loop .inv .sized .rows .xs ∙ z .prev ∙ sym (z .rows .xs)
@@ -99,7 +98,7 @@ route-sorted-spec =
     μ-loop
     store-source-requires
     loop-holds
-    ask-at-requires
+    query-at-requires
     insert-terminal-requires
     add-i
     loop-less

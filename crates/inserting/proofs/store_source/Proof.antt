@@ -1,7 +1,5 @@
 -- `inserting::store_source`: a row and the end of a chain are stored at 0.
-use native.Mathlib.Omega.{arith}
 use mathlib.Core.Path.{refl}
-use lib.ListN.{length-set}
 use borrow.Author.Needs.{needs}
 use Rattle.inserting.proofs.store_source.Statement.{statement}
 use Rattle.inserting.proofs.store_source.Tie as tie

@@ -1,6 +1,10 @@
-use mathlib.Core.Path.{_∙_}
-use lib.ListN.{length-set}
-use Rattle.joining.proofs.Links.{appended}
+-- `joining::append_child`: the child's own chain is ended, and then it goes last among its parent's.
+use Prim.Native.Nat.{ℕ}
+use mathlib.Core.Path.{_≡_, subst, _∙_}
+use mathlib.Core.List.{List}
+use lib.ListN.{set, length-set}
+use Rattle.tree.specs.Limits.{noNode}
+use Rattle.joining.specs.Links.{Attached, Appended}
 use borrow.Author.Needs.{needs}
 use Rattle.joining.proofs.append_child.Statement.{statement}
 use Rattle.joining.proofs.append_child.Tie as tie
@@ -23,8 +27,12 @@ same-length c = c .before .before .before .before .attach-last .kept .0 ∙ simp
 same-length-2 : tie.Need-same-length-2
 same-length-2 c = search needs
 
+-- the index is the child's number
+at-child : (last : List ℕ) {prev last′ prev′ : List ℕ} {p c j : ℕ} → j ≡ c → Attached (set last j noNode) prev p c last′ prev′ → Appended last prev p c last′ prev′
+at-child last {prev} {last′} {prev′} {p} {c} e h = subst (λ (i : ℕ). Attached (set last i noNode) prev p c last′ prev′) e h
+
 returns : tie.Need-returns
-returns c = let d = c .before .before .before .before in appended (d .before .before .before .before .before .before .args .last .now) _ _ _ _ _ _ (d .before .before .before .wide .ensures) (d .attach-last .ensures)
+returns c = let d = c .before .before .before .before in at-child (d .before .before .before .before .before .before .args .last .now) (d .before .before .before .wide .ensures) (d .attach-last .ensures)
 
 pub append-child-spec : {M : Type 1} → statement M
 append-child-spec =

@@ -1,6 +1,7 @@
+-- `joining::store_row`: six stores at one index.
+use lib.ListN.{set}
 use mir.Syntax.{w32}
 use mir.ValLaws.{toZ-ofZ}
-use lib.ListN.{set}
 use Rattle.geometry.specs.Signed.{InPoint}
 use borrow.Author.Needs.{needs}
 use Rattle.joining.proofs.store_row.Statement.{statement}

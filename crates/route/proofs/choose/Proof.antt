@@ -29,7 +29,7 @@ returns-2 c = ap (λ (m : Mode). choiceOf m (c .before .before .args .s) (c .bef
 returns-3 : tie.Need-returns-3
 returns-3 c =
     let s = c .before .before .before .before in
-    (λ i. record { way = Search; ask = record { q = s .args .s; limit = s .args .w; allowed = (home (record { sfits = c .allowed .ok }) ∙ c .allowed .ensures) i } })
+    (λ i. record { way = Search; query = record { point = s .args .s; limit = s .args .w; allowed = (home (record { sfits = c .allowed .ok }) ∙ c .allowed .ensures) i } })
     ∙ ap (λ (m : Mode). choiceOf m (s .args .s) (s .args .w)) (sym (c .before .before .mode .given .1))
 
 pub choose-spec : {M : Type 1} → statement M

@@ -60,7 +60,7 @@ same-length-2 c = search needs
 returns : tie.Need-returns
 returns c =
     let s = c .before .before .before .before .before .before .before .before .before .before .before .before .before .before .before .before .before .before .before .before .before .before .before .before .before .before .before .before .before .before in
-    let f : In32 (c .before .before .before .before .before .before .before .before .before .before .before .before .before .before .before .before .before .before .before .before .before .choose .result .ask .allowed) = search needs in
+    let f : In32 (c .before .before .before .before .before .before .before .before .before .before .before .before .before .before .before .before .before .before .before .before .before .choose .result .query .allowed) = search needs in
     planned (s .args .ks .now) _ _ _ (s .args .mode) (s .pre) _ _ (c .before .before .before .before .before .before .before .before .before .before .before .before .before .before .before .before .before .before .before .before .before .before .before .before .sort .ensures) _ (c .before .before .before .before .before .before .before .before .before .before .before .before .before .before .before .before .before .before .before .before .before .before .before .before .before .before .before .farthest .ensures) _ (c .before .before .before .before .before .before .before .before .before .before .before .before .before .before .before .before .before .before .before .before .before .choose .ensures) _
     (c .before .before .before .before .before .before .before .before .before .route-sorted .ensures) (c .before .before .before .before .before .before .before .before .before .route-sorted .kept .0) refl (home f) refl
 

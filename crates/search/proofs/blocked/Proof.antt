@@ -1,8 +1,9 @@
+-- `search::blocked`: the keepouts from i on decide as all of them do.
 use Prim.Native.Nat.{_≤_, _-_}
 use mathlib.Core.Path.{refl}
 use native.Mathlib.Omega.{arith}
 use lib.ListN.{length}
-use Rattle.search.specs.Branch.{Scan, scan-hit, scan-next, scan-ends}
+use Rattle.search.proofs.Keepouts.{Scan, scan-hit, scan-next, scan-ends}
 use Rattle.search.proofs.blocked.Statement.{statement}
 use Rattle.search.proofs.blocked.Tie as tie
 
@@ -18,14 +19,14 @@ loop-holds c = (omega arith, refl)
 add-loop : tie.Need-add-loop Inv-loop μ-loop
 add-loop c = omega arith
 
-rect-at-requires : tie.Need-rect-at-requires Inv-loop μ-loop
-rect-at-requires c κs = omega arith
+keepout-at-requires : tie.Need-keepout-at-requires Inv-loop μ-loop
+keepout-at-requires c κs = omega arith
 
-shut-by-requires : tie.Need-shut-by-requires Inv-loop μ-loop
-shut-by-requires c κs = tt
+stops-requires : tie.Need-stops-requires Inv-loop μ-loop
+stops-requires c κs = tt
 
 returns : tie.Need-returns Inv-loop μ-loop
-returns c = scan-hit _ _ _ _ _ _ (c .before .before .before .before .loop .inv .1) (c .before .before .before .loop-test .taken) _ _ (c .before .before .rect-at .ensures) (c .before .shut-by .ensures) (c .if1 .taken)
+returns c = scan-hit _ _ _ _ _ _ (c .before .before .before .before .loop .inv .1) (c .before .before .before .loop-test .taken) _ _ (c .before .before .keepout-at .ensures) (c .before .stops .ensures) (c .if1 .taken)
 
 add-i : tie.Need-add-i Inv-loop μ-loop
 add-i c = omega arith
@@ -34,7 +35,7 @@ loop-less : tie.Need-loop-less Inv-loop μ-loop
 loop-less c = omega arith
 
 loop-again : tie.Need-loop-again Inv-loop μ-loop
-loop-again c = (omega arith, scan-next _ _ _ _ _ _ (c .before .before .before .before .loop .inv .1) (c .before .before .before .loop-test .taken) _ _ (c .before .before .rect-at .ensures) (c .before .shut-by .ensures) (c .if1 .left))
+loop-again c = (omega arith, scan-next _ _ _ _ _ _ (c .before .before .before .before .loop .inv .1) (c .before .before .before .loop-test .taken) _ _ (c .before .before .keepout-at .ensures) (c .before .stops .ensures) (c .if1 .left))
 
 returns-2 : tie.Need-returns-2 Inv-loop μ-loop
 returns-2 c = scan-ends _ _ _ _ _ _ (c .before .loop .inv .1) (c .loop-test .left)
@@ -47,8 +48,8 @@ blocked-spec =
     μ-loop
     loop-holds
     add-loop
-    rect-at-requires
-    shut-by-requires
+    keepout-at-requires
+    stops-requires
     returns
     add-i
     loop-less

@@ -1,7 +1,7 @@
 -- `search::distance`: within the limit the distance is at most 4,000,000.
-use borrow.Author.Needs.{needs}
 use native.Mathlib.Omega.{arith}
 use Rattle.geometry.specs.Laws.{dist-small}
+use borrow.Author.Needs.{needs}
 use Rattle.search.proofs.distance.Statement.{statement}
 use Rattle.search.proofs.distance.Tie as tie
 

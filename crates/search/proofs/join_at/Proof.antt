@@ -1,3 +1,4 @@
+-- `search::join_at`: the two tests in turn.
 use borrow.Author.Needs.{needs}
 use Rattle.search.proofs.join_at.Statement.{statement}
 use Rattle.search.proofs.join_at.Tie as tie

@@ -1,8 +1,8 @@
 -- `search::nearest_on`: the box, then its nearest point.
-use borrow.Author.Needs.{needs}
 use mathlib.Core.Path.{ap, _∙_}
 use Rattle.geometry.specs.declared.Rectangle.{Rectangle}
 use Rattle.geometry.specs.Geometry.{nearest}
+use borrow.Author.Needs.{needs}
 use Rattle.search.proofs.nearest_on.Statement.{statement}
 use Rattle.search.proofs.nearest_on.Tie as tie
 

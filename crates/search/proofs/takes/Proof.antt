@@ -1,3 +1,4 @@
+-- `search::takes`: the tests of the take rule in turn.
 use borrow.Author.Tests.{le-leb, lt-leb}
 use borrow.Author.Needs.{needs}
 use Rattle.search.proofs.takes.Statement.{statement}

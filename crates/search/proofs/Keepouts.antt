@@ -1,0 +1,79 @@
+-- Keepouts: the four tests of one in turn, and the scan of a flat list, four numbers each.
+use Prim.Native.Nat.{ℕ, _+_, _≤_, _<_}
+use mathlib.Core.Path.{_≡_, refl, ap, sym, _∙_}
+use mathlib.Core.Bool.{Bool, true, false, _||_}
+use mathlib.Core.List.{List, [], _∷_}
+use native.Mathlib.Omega.{arith}
+use native.Mathlib.Numerals.{add-one}
+use lib.ListN.{length, getD, drop, length-drop}
+use lib.IntN.{ℤ, pos}
+use lib.Seq.{drop-cons}
+use Rattle.geometry.specs.declared.Point.{Point}
+use Rattle.geometry.specs.declared.Rectangle.{Rectangle}
+use Rattle.geometry.specs.Geometry.{contains, blocks}
+use Rattle.search.specs.Branch.{keepoutsOf, stopsBy, blockedBy, keepoutAt}
+
+-- ---- one keepout: the four tests in turn
+module _ (k : Rectangle) (n : Point) (a b c : Rectangle) where
+  pub hit-1 : contains k n ≡ true → true ≡ stopsBy k n a b c
+  unfolding stopsBy
+  hit-1 e = rw e
+
+  module _ (e₁ : contains k n ≡ false) where
+    pub hit-2 : blocks k a ≡ true → true ≡ stopsBy k n a b c
+    unfolding stopsBy
+    hit-2 e = rw (e₁, e)
+
+    module _ (e₂ : blocks k a ≡ false) where
+      pub hit-3 : blocks k b ≡ true → true ≡ stopsBy k n a b c
+      unfolding stopsBy
+      hit-3 e = rw (e₁, e₂, e)
+
+      pub hit-4 : blocks k b ≡ false → blocks k c ≡ stopsBy k n a b c
+      unfolding stopsBy
+      hit-4 e = rw (e₁, e₂, e)
+
+-- ---- the list of keepouts, four numbers each
+next : (l : List ℤ) (i j : ℕ) → i < length l → j ≡ i + 1 → drop i l ≡ getD l i (pos 0) ∷ drop j l
+next l i j h e = drop-cons l i (pos 0) h ∙ ap (λ (m : ℕ). getD l i (pos 0) ∷ drop m l) (sym (e ∙ add-one i))
+
+pub keepouts-next : (l : List ℤ) (i : ℕ) → i + 4 ≤ length l → keepoutsOf (drop i l) ≡ keepoutAt l i ∷ keepoutsOf (drop (i + 4) l)
+unfolding keepoutsOf
+keepouts-next l i h =
+    ap keepoutsOf
+    (next l i (i + 1) (omega arith) refl
+    ∙ ap (λ (r : List ℤ). getD l i (pos 0) ∷ r)
+    (next l (i + 1) (i + 2) (omega arith) (omega arith)
+    ∙ ap (λ (r : List ℤ). getD l (i + 1) (pos 0) ∷ r)
+    (next l (i + 2) (i + 3) (omega arith) (omega arith)
+    ∙ ap (λ (r : List ℤ). getD l (i + 2) (pos 0) ∷ r) (next l (i + 3) (i + 4) (omega arith) (omega arith)))))
+
+keepouts-short : (l : List ℤ) → length l < 4 → keepoutsOf l ≡ []
+unfolding keepoutsOf
+keepouts-short [] h = refl
+keepouts-short (a ∷ []) h = refl
+keepouts-short (a ∷ b ∷ []) h = refl
+keepouts-short (a ∷ b ∷ c ∷ []) h = refl
+keepouts-short (a ∷ b ∷ c ∷ d ∷ r) h = absurd (omega arith)
+
+module _ (l : List ℤ) (n : Point) (a b c : Rectangle) (i : ℕ) where
+  -- the keepouts from i on decide
+  abbrev pub Scan : Type 0
+  Scan = blockedBy (keepoutsOf (drop i l)) n a b c ≡ blockedBy (keepoutsOf l) n a b c
+
+  pub scan-ends : Scan → length l < i + 4 → false ≡ blockedBy (keepoutsOf l) n a b c
+  unfolding blockedBy
+  scan-ends v h = sym (ap (λ (r : List Rectangle). blockedBy r n a b c) (keepouts-short (drop i l) (omega (arith, length-drop i l)))) ∙ v
+
+  module _ (v : Scan) (more : i + 4 ≤ length l) (k : Rectangle) (r : Bool) (ek : k ≡ keepoutAt l i) (er : r ≡ stopsBy k n a b c) where
+    turn : blockedBy (keepoutsOf l) n a b c ≡ (r || blockedBy (keepoutsOf (drop (i + 4) l)) n a b c)
+    unfolding blockedBy
+    turn =
+        sym v ∙ ap (λ (x : List Rectangle). blockedBy x n a b c) (keepouts-next l i more)
+        ∙ ap (λ (x : Bool). x || blockedBy (keepoutsOf (drop (i + 4) l)) n a b c) (sym (er ∙ ap (λ (x : Rectangle). stopsBy x n a b c) ek))
+
+    pub scan-hit : r ≡ true → true ≡ blockedBy (keepoutsOf l) n a b c
+    scan-hit e = sym (turn ∙ ap (λ (x : Bool). x || blockedBy (keepoutsOf (drop (i + 4) l)) n a b c) e)
+
+    pub scan-next : r ≡ false → blockedBy (keepoutsOf (drop (i + 4) l)) n a b c ≡ blockedBy (keepoutsOf l) n a b c
+    scan-next e = sym (turn ∙ ap (λ (x : Bool). x || blockedBy (keepoutsOf (drop (i + 4) l)) n a b c) e)

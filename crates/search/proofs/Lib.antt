@@ -1,0 +1,9 @@
+pub mod Judging
+pub mod Keepouts
+pub mod Chains
+pub mod ChildTurns
+pub mod WalkTurns
+pub mod Distinct
+pub mod Forest
+pub mod TreeWalk
+pub mod Defined
