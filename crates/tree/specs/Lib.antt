@@ -5,3 +5,4 @@ pub mod Route
 pub mod Shape
 pub mod WellFormed
 pub mod Memory
+pub mod Measures

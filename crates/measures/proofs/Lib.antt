@@ -1,0 +1,5 @@
+pub mod Lent
+pub mod Levels
+pub mod Summed
+pub mod Longest
+pub mod KindsOf
