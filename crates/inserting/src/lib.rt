@@ -21,6 +21,9 @@ pub enum Way {
     Search,
 }
 
+// The path length of a terminal that joins the closest node.
+const UNMEASURED: u32 = 0;
+
 // ---- one terminal
 
 // The node of least distance to q among the first n, the lowest index on ties.
@@ -64,7 +67,7 @@ pub fn insert_simple(
     let p = find_nearest_node(xs, ys, k.nodes, q);
     let row = Row {
         point: q,
-        path: 0,
+        path: UNMEASURED,
         parent: p,
         kind: tree::TERMINAL,
         number: k.terminal.0,
