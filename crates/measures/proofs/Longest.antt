@@ -1,7 +1,7 @@
 -- The loop over a node's children, from the last to the first: the longest run so far and the longest of those that are left make the longest of all.
 use Prim.Native.Nat.{ℕ, zero, suc, _+_, _-_, _*_, _≤_, _<_, max}
 use mathlib.Core.Path.{_≡_, refl, ap, sym, subst, _∙_}
-use mathlib.Core.Logic.{_⊎_, inl, inr}
+use mathlib.Core.Logic.{inl, inr}
 use mathlib.Core.List.{List, [], _∷_, _++_, reverse, reverse-cons}
 use native.Mathlib.Omega.{arith}
 use lib.ListN.{length, getD}

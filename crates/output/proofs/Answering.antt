@@ -1,5 +1,5 @@
 -- A measured output, refused or written: m is how long it is, by the same writer on a buffer of its own.
-use mathlib.Core.Path.{_≡_, refl, ap, _∙_}
+use mathlib.Core.Path.{_≡_, ap, _∙_}
 use mathlib.Core.Bool.{true, false}
 use mathlib.Core.List.{List, _++_}
 use Prim.Native.Nat.{ℕ, _+_, _≤_, _<_}
@@ -7,7 +7,7 @@ use native.Mathlib.Omega.{arith}
 use lib.ListN.{length, drop}
 use lib.Dec.{leb}
 use borrow.Author.Tests.{le-leb, lt-leb}
-use Rattle.wire.specs.Puts.{Puts, upTo, lastPlace, puts-room}
+use Rattle.wire.specs.Puts.{Puts, lastPlace, puts-room}
 use Rattle.output.specs.Answer.{noRoom, answerOf, contentOf, Answers}
 use Rattle.output.specs.declared.Answer.the-variants.{Wrote, Refused}
 

@@ -16,7 +16,7 @@ use Rattle.tree.specs.Tree.{Node, nodeAt}
 use Rattle.search.specs.Walk.{pointAt}
 use Rattle.search.specs.Columns.{Has, chain, chainOf}
 use Rattle.search.proofs.Chains.{Unrolled, unroll, ended}
-use Rattle.joining.specs.Store.{Columns, nameFrom, nodeFrom, rowAt}
+use Rattle.joining.specs.Store.{Columns, nameFrom}
 use Rattle.measures.proofs.Lent.{Read}
 use Rattle.text.specs.Text.{indent, headOf, lineOf, nodeLine, each, textFrom, textOf}
 use Rattle.text.specs.Children.{Siblings}

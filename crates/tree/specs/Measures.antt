@@ -1,6 +1,6 @@
 -- Measures and listings of a tree (document 01, "Measures, edits, text" and "Tree bytes"). Definitions only. The total stands in specs/Tree.antt.
 use Prim.Native.Nat.{ℕ, zero, suc, _+_, max}
-use mathlib.Core.Bool.{Bool, true, false, cond}
+use mathlib.Core.Bool.{Bool, false, cond}
 use mathlib.Core.List.{List, [], _∷_, _++_}
 use lib.ListN.{length}
 use lib.Dec.{eqb}
@@ -19,7 +19,8 @@ unfoldable pub worstBelow : List Node → ℕ → ℕ → ℕ
 worstBelow ns zero i = 0
 worstBelow ns (suc left) i = greatest (λ c. dist (nodeAt ns i .point) (nodeAt ns c .point) + worstBelow ns left c) (nodeAt ns i .children)
 
--- "Worst: the longest sum from source to any leaf"
+-- "Worst: the longest sum from source to any leaf": no node's sum along its parents is longer, and a leaf's is as long (`none-longer` and `as-long` in
+-- the crate measures, proofs/WorstRun.antt)
 abbrev pub worst : List Node → ℕ
 worst ns = worstBelow ns (length ns) 0
 
@@ -29,7 +30,7 @@ abbrev pub ofParent : Parent → (ℕ → List ℕ) → List ℕ
 ofParent none f = []
 ofParent (at p) f = f p
 
--- the parent's path, then i. `left` bounds the steps
+-- the parent's path, then i. `left` bounds the steps, and as many as there are nodes are enough (`path-enough` in the crate lists, proofs/Enough.antt)
 unfoldable pub pathDown : List Node → ℕ → ℕ → List ℕ
 pathDown ns zero i = i ∷ []
 pathDown ns (suc left) i = ofParent (nodeAt ns i .parent) (pathDown ns left) ++ (i ∷ [])

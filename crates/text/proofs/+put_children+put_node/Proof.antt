@@ -1,5 +1,5 @@
 -- `text::put_node` and `text::put_children`: a node's line and then its children, with one level less; and the siblings before first.
-use Prim.Native.Nat.{_+_, _-_, _*_, _≤_}
+use Prim.Native.Nat.{_+_, _-_, _*_}
 use native.Mathlib.Omega.{arith}
 use denote.Ref.{now}
 use lib.ListN.{length, getD}

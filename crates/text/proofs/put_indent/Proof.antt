@@ -2,9 +2,9 @@
 use native.Mathlib.Omega.{arith}
 use borrow.Author.Needs.{needs}
 use mathlib.Core.Path.{_≡_, refl}
-use mathlib.Core.List.{List, [], _∷_}
-use Prim.Native.Nat.{_<_, _≤_, _-_}
-use Rattle.wire.specs.Puts.{Left, left-all, left-less, left-none, puts-as}
+use mathlib.Core.List.{[], _∷_}
+use Prim.Native.Nat.{_-_}
+use Rattle.wire.specs.Puts.{Left, left-all, left-less, left-none}
 use Rattle.text.specs.Text.{indent}
 use Rattle.text.proofs.Lines.{indent-step, indent-none}
 use Rattle.text.proofs.put_indent.Statement.{statement}

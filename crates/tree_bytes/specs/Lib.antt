@@ -1,0 +1,2 @@
+pub mod TreeBytes
+pub mod Show
