@@ -108,7 +108,7 @@ module _ {j : Join} {q : Point} {k : Counts} {c : Columns} (v₀ : Standing (At 
         links = record {
           few = omega (arith, u .sized .prev, u .sized .few);
           in-p = omega (arith, u .sized .last, in-m u p in-p);
-          in-c = omega (arith, u .sized .prev, in-m u d in-d);
+          in-c = (omega (arith, u .sized .last, in-m u d in-d), omega (arith, u .sized .prev, in-m u d in-d));
           in-i = (omega (arith, u .sized .last, u .room), omega (arith, u .sized .prev, u .room));
           in-s = (omega (arith, u .sized .last, u .room), omega (arith, u .sized .prev, u .room));
           linked = record { is = subst (λ (l : List ℕ). Chain (c .prev) (getD (c .last) p 0) l) (sym children-p) (u .stores .keeps .children p in-p) };

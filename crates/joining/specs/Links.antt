@@ -59,7 +59,7 @@ pub record Spliced (last prev : List ℕ) (p c i s : ℕ) (last′ prev′ : Lis
 pub record Spliceable (last prev : List ℕ) (p c i s : ℕ) : Type 0 where
   pub few : length prev ≤ noNode
   pub in-p : p < length last
-  pub in-c : c < length prev
+  pub in-c : (c < length last) × (c < length prev)
   pub in-i : (i < length last) × (i < length prev)
   pub in-s : (s < length last) × (s < length prev)
   pub linked : Linked prev (getD last p 0)
