@@ -19,22 +19,24 @@ use Rattle.tree.proofs.Measuring.{reaches}
 use Rattle.tree.proofs.Forming.{formed-start}
 use Rattle.search.specs.Columns.{chain, chainOf, Chain, Linked}
 use Rattle.search.proofs.Chains.{ended}
+use Rattle.joining.specs.Links.{links, BackedBy, Backed}
 use Rattle.joining.specs.Store.{upTo}
 use Rattle.nodes.specs.Nodes.{blankNode}
 use Rattle.global_router.specs.declared.GlobalRoutingTree.{GlobalRoutingTree}
-use Rattle.global_router.specs.Stored.{treeOf, Stored}
+use Rattle.global_router.specs.Stored.{nodeOf, treeOf, Stored}
 use Rattle.global_router.specs.Calls.{begun}
 
 abbrev pub sourceNode : Point → RoutingNode
 sourceNode s = record { name = Source; parent = None; pt = s; «path_length» = 0; capacitance = zeroFigure; delay = zeroFigure }
 
 -- as the code makes it
-abbrev pub made : Point → List RoutingNode → List ℕ → List ℕ → GlobalRoutingTree
-made s nodes last prev =
+abbrev pub made : Point → List RoutingNode → List ℕ → List ℕ → List ℕ → GlobalRoutingTree
+made s nodes last prev next =
     record {
       nodes = set nodes 0 (sourceNode s);
       last = last;
       prev = prev;
+      next = next;
       count = 1;
       «next_steiner_id» = record { 0 = 1 };
       «next_terminal_id» = record { 0 = 1 };
@@ -43,8 +45,8 @@ made s nodes last prev =
       farthest = 0;
     }
 
-module _ (s : Point) (nodes : List RoutingNode) (last prev : List ℕ)
-    (en : nodes ≡ replicate mostNodes blankNode) (el : last ≡ replicate mostNodes noNode) (ep : prev ≡ replicate mostNodes noNode) where
+module _ (s : Point) (nodes : List RoutingNode) (last prev next : List ℕ)
+    (en : nodes ≡ replicate mostNodes blankNode) (el : last ≡ replicate mostNodes noNode) (ep : prev ≡ replicate mostNodes noNode) (ex : next ≡ replicate mostNodes noNode) where
   size-nodes : length nodes ≡ mostNodes
   size-nodes = ap length en ∙ length-replicate mostNodes blankNode
 
@@ -63,7 +65,7 @@ module _ (s : Point) (nodes : List RoutingNode) (last prev : List ℕ)
   source-is : nodeIn (getD (set nodes 0 (sourceNode s)) 0 blankNode) (reverse (chain prev (getD last 0 0))) ≡ nodeIn (sourceNode s) []
   source-is = λ i. nodeIn (getD-set-same nodes 0 (sourceNode s) blankNode (omega (arith, size-nodes)) i) (reverse (no-children i))
 
-  pub begun-is : treeOf (made s nodes last prev) ≡ begun s
+  pub begun-is : treeOf (made s nodes last prev next) ≡ begun s
   unfolding upTo
   begun-is =
       λ i. record {
@@ -75,11 +77,11 @@ module _ (s : Point) (nodes : List RoutingNode) (last prev : List ℕ)
         nextTerminal = 1;
       }
 
-  formed : Within reach s → WellFormed (treeOf (made s nodes last prev))
+  formed : Within reach s → WellFormed (treeOf (made s nodes last prev next))
   formed h = subst WellFormed (sym begun-is) (formed-start s h (pos noLimit) 0 noLimit)
 
-  pub begun-stored : Within reach s → Stored (made s nodes last prev)
-  unfolding Chain
+  pub begun-stored : Within reach s → Stored (made s nodes last prev next)
+  unfolding Chain BackedBy
   begun-stored h =
       record {
         formed = formed h;
@@ -88,12 +90,17 @@ module _ (s : Point) (nodes : List RoutingNode) (last prev : List ℕ)
         steiners = omega arith;
         limit-small = omega arith;
         farthest-small = omega arith;
+        figures = λ i h. let z : 0 ≡ i = omega arith in subst (λ (k : ℕ). (nodeOf (made s nodes last prev next) k .capacitance ≡ zeroFigure) × (nodeOf (made s nodes last prev next) k .delay ≡ zeroFigure)) z (ap (λ (x : Node). x .capacitance) source-is, ap (λ (x : Node). x .delay) source-is);
         nodes = length-set nodes 0 (sourceNode s) ∙ size-nodes;
         last = size-last;
         prev = size-prev;
+        back = record { size = ap length ex ∙ length-replicate mostNodes noNode; agree = λ p l. let z : 0 ≡ p = omega arith in subst (Backed (links last prev next)) z backed };
         chains = λ p l. let z : 0 ≡ p = omega arith in subst (λ (k : ℕ). Linked prev (getD last k 0)) z linked;
       }
     where
+      backed : Backed (links last prev next) 0
+      backed = subst (BackedBy next noNode) (sym no-children) tt
+
       nothing : (l : ℕ) → l ≡ noNode → Chain prev l []
       nothing l e = e
 

@@ -22,10 +22,11 @@ use Rattle.search.specs.Branch.{keepoutsOf}
 use Rattle.sorting.specs.Points.{pt, Even}
 use Rattle.joining.specs.Store.{nodeOf}
 use Rattle.joining.proofs.Reading.{length-upto}
-use Rattle.route.specs.declared.Table.{Table}
-use Rattle.route.specs.Plan.{points, tableColumns, tableTree, Plannable, Planned}
+use Rattle.nodes.specs.declared.Table.{Table}
+use Rattle.nodes.specs.Table.{tableColumns, tableTree, Tabled}
+use Rattle.route.specs.Plan.{points, Plannable, Planned}
 use Rattle.route.specs.Routing.{wayOf, treeFor}
-use Rattle.global_router.specs.Calls.{Sound, Tabled}
+use Rattle.global_router.specs.Calls.{Sound}
 use Rattle.global_router.proofs.Columns.{points-are, keepouts-are, coords-length}
 
 module _ (j : RoutingJob) (v : Sound j) where
@@ -126,6 +127,7 @@ module _ (j : RoutingJob) (v : Sound j) where
           formed = p .formed;
           keeps = p .keeps;
           sized = p .sized;
+          back = p .back;
           few = omega (arith, size, p .counted .size, p .counted .steiners, p .next, part-xs, terminals-few);
           steiners = omega (arith, p .counted .steiners, p .next, part-xs, terminals-few);
           limit-small = p .limit-small;

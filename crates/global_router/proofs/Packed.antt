@@ -1,6 +1,6 @@
 -- A tree that the router left in columns, packed into nodes: it is the same tree, and what the columns show holds of it.
 use Prim.Native.Nat.{ℕ, zero, suc, _≤_, _<_}
-use mathlib.Core.Path.{_≡_, refl, sym, subst}
+use mathlib.Core.Path.{_≡_, refl, sym, ap, subst}
 use mathlib.Core.List.{List, [], _∷_, _++_}
 use native.Mathlib.Omega.{arith}
 use lib.ListN.{length, getD}
@@ -15,14 +15,13 @@ use Rattle.search.specs.Columns.{Chain, Linked}
 use Rattle.joining.specs.Store.{nodeOf, upTo}
 use Rattle.joining.proofs.Reading.{length-upto, children-are}
 use Rattle.nodes.specs.Nodes.{blankNode, Packs}
-use Rattle.route.specs.declared.Table.{Table}
-use Rattle.route.specs.Plan.{tableColumns, tableTree}
+use Rattle.nodes.specs.declared.Table.{Table}
+use Rattle.nodes.specs.Table.{tableColumns, tableTree, Tabled}
 use Rattle.global_router.specs.declared.GlobalRoutingTree.{GlobalRoutingTree}
 use Rattle.global_router.specs.Stored as M
 use Rattle.global_router.specs.Stored.{treeOf, Stored}
-use Rattle.global_router.specs.Calls.{Tabled}
 
-upto-same : (f g : ℕ → Node) (n : ℕ) → ((i : ℕ) → i < n → f i ≡ g i) → upTo f n ≡ upTo g n
+pub upto-same : (f g : ℕ → Node) (n : ℕ) → ((i : ℕ) → i < n → f i ≡ g i) → upTo f n ≡ upTo g n
 unfolding upTo
 upto-same f g zero h = refl
 upto-same f g (suc n) h = λ i. upto-same f g n (λ k l. h k (omega arith)) i ++ (h n (omega arith) i ∷ [])
@@ -34,6 +33,7 @@ memory t nodes allowed =
       nodes = nodes;
       last = t .last;
       prev = t .prev;
+      next = t .next;
       count = t .counts .nodes;
       «next_steiner_id» = t .counts .steiner;
       «next_terminal_id» = t .counts .terminal;
@@ -82,9 +82,11 @@ module _ (t : Table) (v : Tabled t) (n : ℕ) (is-n : n ≡ t .counts .nodes) (n
         steiners = v .steiners;
         limit-small = v .limit-small;
         farthest-small = v .farthest-small;
+        figures = λ i h. (ap (λ (x : Node). x .capacitance) (packs .is i (omega arith) []), ap (λ (x : Node). x .delay) (packs .is i (omega arith) []));
         nodes = packs .size;
         last = v .sized .last;
         prev = v .sized .prev;
+        back = v .back;
         chains = chains;
       }
 

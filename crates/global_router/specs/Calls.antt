@@ -1,21 +1,17 @@
 -- What the calls that give a tree answer.
-use Prim.Native.Nat.{ℕ, _+_, _≤_}
+use Prim.Native.Nat.{ℕ}
 use mathlib.Core.Path.{_≡_}
 use mathlib.Core.Bool.{cond}
 use lib.IntN.{pos}
 use Rattle.geometry.specs.declared.Point.{Point}
 use Rattle.geometry.specs.Geometry.{origin}
-use Rattle.tree.specs.Limits.{across, mostNodes, noLimit}
+use Rattle.tree.specs.Limits.{noLimit}
 use Rattle.tree.specs.Tree.{Tree}
 use Rattle.tree.specs.Route.{rooted}
-use Rattle.tree.specs.WellFormed.{WellFormed}
 use Rattle.job.specs.Job.{outside}
 use Rattle.job.specs.declared.RoutingJob.{RoutingJob}
 use Rattle.job.specs.Reading.{packed, unpacked}
 use Rattle.job.specs.Accepted.{Accepted}
-use Rattle.joining.specs.Store.{Sized, Keeps}
-use Rattle.route.specs.declared.Table.{Table}
-use Rattle.route.specs.Plan.{tableColumns, tableTree}
 use Rattle.route.specs.Routing.{Routing, refused, routed}
 use Rattle.global_router.specs.declared.Answer.{Answer}
 use Rattle.global_router.specs.declared.Answer.the-variants.{Refused, Done}
@@ -42,16 +38,6 @@ pub record Outcomes (x : Routing) (r : Outcome) : Type 0 where
   pub stored : Stored (r .tree)
 
 -- ---- inner contracts
--- a tree in columns that can be packed
-pub record Tabled (t : Table) : Type 0 where
-  pub formed : WellFormed (tableTree t)
-  pub keeps : Keeps (tableTree t .nodes) (tableColumns t)
-  pub sized : Sized mostNodes (tableColumns t)
-  pub few : t .counts .nodes ≤ mostNodes
-  pub steiners : t .counts .steiner .0 ≤ mostNodes + 1
-  pub limit-small : t .limit ≤ noLimit
-  pub farthest-small : t .farthest ≤ across
-
 -- a job in memory that was accepted
 pub record Sound (j : RoutingJob) : Type 0 where
   pub packing : j ≡ packed (unpacked j)

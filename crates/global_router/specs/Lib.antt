@@ -1,2 +1,4 @@
 pub mod Stored
 pub mod Calls
+pub mod Reading
+pub mod Editing

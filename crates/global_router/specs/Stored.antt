@@ -4,10 +4,11 @@ use mathlib.Core.Path.{_≡_}
 use mathlib.Core.List.{List, reverse}
 use lib.ListN.{length, getD}
 use Rattle.tree.specs.Limits.{across, mostNodes, noLimit}
-use Rattle.tree.specs.Tree.{Node, Tree, climb}
+use Rattle.tree.specs.Tree.{Node, Tree, zeroFigure, climb}
 use Rattle.tree.specs.Memory.{nodeIn}
 use Rattle.tree.specs.WellFormed.{WellFormed}
 use Rattle.search.specs.Columns.{chain, Linked}
+use Rattle.joining.specs.Links.{Links, links, LinkedBack}
 use Rattle.joining.specs.Store.{upTo}
 use Rattle.nodes.specs.Nodes.{blankNode}
 use Rattle.global_router.specs.declared.GlobalRoutingTree.{GlobalRoutingTree}
@@ -15,6 +16,9 @@ use Rattle.global_router.specs.declared.GlobalRoutingTree.{GlobalRouting
 -- a node's children: the chain of links from its last child, turned round
 abbrev pub childrenIn : GlobalRoutingTree → ℕ → List ℕ
 childrenIn g i = reverse (chain (g .prev) (getD (g .last) i 0))
+
+abbrev pub linksIn : GlobalRoutingTree → Links
+linksIn g = links (g .last) (g .prev) (g .next)
 
 abbrev pub nodeOf : GlobalRoutingTree → ℕ → Node
 nodeOf g i = nodeIn (getD (g .nodes) i blankNode) (childrenIn g i)
@@ -40,8 +44,11 @@ pub record Stored (g : GlobalRoutingTree) : Type 0 where
   pub steiners : g .«next_steiner_id» .0 ≤ mostNodes + 1
   pub limit-small : g .«worst_wirelength» ≤ noLimit
   pub farthest-small : g .farthest ≤ across
+  -- capacitance and delay are 0.0
+  pub figures : (i : ℕ) → i < g .count → (nodeOf g i .capacitance ≡ zeroFigure) × (nodeOf g i .delay ≡ zeroFigure)
   -- the columns, and that each chain of links ends
   pub nodes : length (g .nodes) ≡ mostNodes
   pub last : length (g .last) ≡ mostNodes
   pub prev : length (g .prev) ≡ mostNodes
+  pub back : LinkedBack mostNodes (g .count) (linksIn g)
   pub chains : (p : ℕ) → p < g .count → Linked (g .prev) (getD (g .last) p 0)

@@ -1,30 +1,51 @@
-// The public crate: a routing tree with private fields, and the calls that make one.
+// The public crate: a routing tree with private fields, and the calls that make one and read one.
+use editing::Edit;
+use editing::NodeType;
+use editing::ParentName;
 use geometry::Point;
 use job::ReadAnswer;
 use job::RoutingJob;
-use route::Table;
+use joining::Counts;
+use nodes::Lookup;
+use nodes::Table;
+use search::Query;
 use tree::NodeName;
 use tree::Parent;
 use tree::RoutingNode;
 use tree::SteinerNumber;
 use tree::TerminalNumber;
+use tree_bytes::Figures;
 ghost use mathlib.Core.Path.{_≡_};
 ghost use lib.ListN.{replicate};
 ghost use Rattle.geometry.specs.Laws.{Within};
 ghost use Rattle.geometry.specs.Geometry.{origin};
 ghost use Rattle.tree.specs.Limits.{reach, mostNodes, noNode};
+ghost use Rattle.tree.specs.Tree.{total};
+ghost use Rattle.tree.specs.Measures.{worst, steinerNodes, terminalNodes};
+ghost use Rattle.tree.specs.Memory.{nameIn};
 ghost use Rattle.job.specs.Reading.{unpacked};
-ghost use Rattle.route.specs.Plan.{tableTree};
+ghost use Rattle.output.specs.Answer.{Answers};
+ghost use Rattle.text.specs.Text.{textOf};
+ghost use Rattle.tree_bytes.specs.TreeBytes.{treeBytes};
+ghost use Rattle.nodes.specs.Nodes.{lookupOf};
+ghost use Rattle.nodes.specs.Table.{tableTree, Tabled};
 ghost use Rattle.route.specs.Routing.{refused, treeFor, routeOf};
 ghost use Rattle.route.specs.Demand3.{Owed};
+ghost use Rattle.tree.specs.Optimize.{optimize};
+ghost use Rattle.search.specs.Branch.{keepoutsOf};
+ghost use Rattle.editing.specs.Edits.{insertSteinerNode, insertTerminalNode, insertNodeOnBranch, insertTerminalWithSteiner, insertTerminalWithConstraints};
+ghost use Rattle.editing.specs.Editing.{parentNameOf, kindIn};
 ghost use Rattle.global_router.specs.Stored.{treeOf, Stored};
-ghost use Rattle.global_router.specs.Calls.{Tabled, Outcomes, answerOf, newOf, Sound, begun};
+ghost use Rattle.global_router.specs.Calls.{Outcomes, answerOf, newOf, Sound, begun};
+ghost use Rattle.global_router.specs.Editing.{EditedTo, Finished};
+ghost use Rattle.global_router.specs.Reading.{nodeNamed, PathAnswers};
 
-// Children are links: `last` has a node's last child, `prev` the sibling before a node.
+// Children are links: `last` has a node's last child, `prev` and `next` the siblings before and after a node.
 pub struct GlobalRoutingTree {
     nodes: [RoutingNode; tree::MOST_NODES],
     last: [u16; tree::MOST_NODES],
     prev: [u16; tree::MOST_NODES],
+    next: [u16; tree::MOST_NODES],
     count: u16,
     next_steiner_id: SteinerNumber,
     next_terminal_id: TerminalNumber,
@@ -56,10 +77,12 @@ fn begin(s: Point) -> GlobalRoutingTree
     };
     let last = no_links();
     let prev = no_links();
+    let next = no_links();
     GlobalRoutingTree {
         nodes: nodes,
         last: last,
         prev: prev,
+        next: next,
         count: 1,
         next_steiner_id: SteinerNumber(1),
         next_terminal_id: TerminalNumber(1),
@@ -83,6 +106,7 @@ fn from_table(t: Table) -> GlobalRoutingTree
     let number = t.number;
     let last = t.last;
     let prev = t.prev;
+    let next = t.next;
     let k = t.counts;
     let n = search::wide(k.nodes);
     let steiner = k.steiner;
@@ -92,12 +116,63 @@ fn from_table(t: Table) -> GlobalRoutingTree
         nodes: nodes,
         last: last,
         prev: prev,
+        next: next,
         count: k.nodes,
         next_steiner_id: steiner,
         next_terminal_id: terminal,
         worst_wirelength: t.limit,
         allowed: t.allowed,
         farthest: t.farthest,
+    }
+}
+
+// And back to columns.
+fn to_table(g: GlobalRoutingTree) -> Table
+    requires { ⌜ Stored g ⌝ }
+    ensures is { λ r. ⌜ tableTree r ≡ treeOf g ⌝ }
+    ensures tabled { λ r. ⌜ Tabled r ⌝ }
+{
+    let nodes = g.nodes;
+    let last = g.last;
+    let prev = g.prev;
+    let next = g.next;
+    let steiner = g.next_steiner_id;
+    let terminal = g.next_terminal_id;
+    let k = Counts {
+        nodes: g.count,
+        steiner: steiner,
+        terminal: terminal,
+    };
+    let mut xs = [0i32; tree::MOST_NODES];
+    let mut ys = [0i32; tree::MOST_NODES];
+    let mut path = [0u32; tree::MOST_NODES];
+    let mut parent = [0u16; tree::MOST_NODES];
+    let mut kind = [0u8; tree::MOST_NODES];
+    let mut number = [0u16; tree::MOST_NODES];
+    nodes::unpack(
+        &mut xs,
+        &mut ys,
+        &mut path,
+        &mut parent,
+        &mut kind,
+        &mut number,
+        nodes,
+        g.count,
+    );
+    Table {
+        xs: xs,
+        ys: ys,
+        path: path,
+        parent: parent,
+        kind: kind,
+        number: number,
+        last: last,
+        prev: prev,
+        next: next,
+        counts: k,
+        limit: g.worst_wirelength,
+        allowed: g.allowed,
+        farthest: g.farthest,
     }
 }
 
@@ -162,6 +237,313 @@ impl GlobalRoutingTree {
             answer: Answer::Done,
             tree: t,
         }
+    }
+
+    // ---- what is read of a tree
+
+    // The total: d to the parent, summed over nodes.
+    pub fn calculate_total_wirelength(self) -> u32
+        requires { ⌜ Stored self ⌝ }
+        ensures { λ r. ⌜ r ≡ total (treeOf self .nodes) ⌝ }
+    {
+        let t = to_table(self);
+        let k = t.counts;
+        let n = search::wide(k.nodes);
+        measures::total_wirelength(
+            &t.xs,
+            &t.ys,
+            &t.path,
+            &t.parent,
+            &t.kind,
+            &t.number,
+            &t.last,
+            &t.prev,
+            n,
+        )
+    }
+
+    // The worst: the longest sum from source to any leaf.
+    pub fn calculate_worst_wirelength(self) -> u32
+        requires { ⌜ Stored self ⌝ }
+        ensures { λ r. ⌜ r ≡ worst (treeOf self .nodes) ⌝ }
+    {
+        let t = to_table(self);
+        let k = t.counts;
+        let n = search::wide(k.nodes);
+        measures::worst_wirelength(
+            &t.xs,
+            &t.ys,
+            &t.path,
+            &t.parent,
+            &t.kind,
+            &t.number,
+            &t.last,
+            &t.prev,
+            n,
+        )
+    }
+
+    // The node that has a name.
+    pub fn find_node(self, name: NodeName) -> Lookup
+        requires { ⌜ Stored self ⌝ }
+        ensures { λ r. ⌜ lookupOf r ≡ nodeNamed (treeOf self) (nameIn name) ⌝ }
+    {
+        let t = to_table(self);
+        nodes::find_node(t, name)
+    }
+
+    // The path from the source to the node that has a name. Refusals: 7, no node has it; then 11.
+    pub fn find_path_to_source(self, name: NodeName, out: &mut [u16]) -> output::Answer
+        requires { ⌜ Stored self ⌝ }
+        ensures { λ r. ⌜ PathAnswers (treeOf self) (nameIn name) (now (out .entry)) r (now (out .exit)) ⌝ }
+    {
+        let t = to_table(self);
+        let Lookup::Found(i) = nodes::find_node(t, name) else {
+            return output::Answer::Refused(7);
+        };
+        let k = t.counts;
+        let n = search::wide(k.nodes);
+        lists::write_path(
+            &t.xs,
+            &t.ys,
+            &t.path,
+            &t.parent,
+            &t.kind,
+            &t.number,
+            &t.last,
+            &t.prev,
+            n,
+            i,
+            out,
+        )
+    }
+
+    // The terminals, in index order. Refusal: 11.
+    pub fn get_all_terminals(self, out: &mut [u16]) -> output::Answer
+        requires { ⌜ Stored self ⌝ }
+        ensures { λ r. ⌜ Answers (terminalNodes (treeOf self .nodes)) (now (out .entry)) r (now (out .exit)) ⌝ }
+    {
+        let t = to_table(self);
+        let k = t.counts;
+        let n = search::wide(k.nodes);
+        lists::write_terminals(
+            &t.xs,
+            &t.ys,
+            &t.path,
+            &t.parent,
+            &t.kind,
+            &t.number,
+            &t.last,
+            &t.prev,
+            n,
+            out,
+        )
+    }
+
+    // The Steiner nodes, in index order. Refusal: 11.
+    pub fn get_all_steiner_nodes(self, out: &mut [u16]) -> output::Answer
+        requires { ⌜ Stored self ⌝ }
+        ensures { λ r. ⌜ Answers (steinerNodes (treeOf self .nodes)) (now (out .entry)) r (now (out .exit)) ⌝ }
+    {
+        let t = to_table(self);
+        let k = t.counts;
+        let n = search::wide(k.nodes);
+        lists::write_steiner_nodes(
+            &t.xs,
+            &t.ys,
+            &t.path,
+            &t.parent,
+            &t.kind,
+            &t.number,
+            &t.last,
+            &t.prev,
+            n,
+            out,
+        )
+    }
+
+    // The text. Refusal: 11.
+    pub fn get_tree_structure(self, out: &mut [u8]) -> output::Answer
+        requires { ⌜ Stored self ⌝ }
+        ensures { λ r. ⌜ Answers (textOf (treeOf self .nodes)) (now (out .entry)) r (now (out .exit)) ⌝ }
+    {
+        let t = to_table(self);
+        let k = t.counts;
+        let n = search::wide(k.nodes);
+        text::write_text(
+            &t.xs,
+            &t.ys,
+            &t.path,
+            &t.parent,
+            &t.kind,
+            &t.number,
+            &t.last,
+            &t.prev,
+            n,
+            out,
+        )
+    }
+
+    // The tree bytes. Refusal: 11.
+    pub fn to_bytes(self, out: &mut [u8]) -> output::Answer
+        requires { ⌜ Stored self ⌝ }
+        ensures { λ r. ⌜ Answers (treeBytes (treeOf self)) (now (out .entry)) r (now (out .exit)) ⌝ }
+    {
+        let t = to_table(self);
+        let f = Figures {
+            allowed: self.allowed,
+            farthest: self.farthest,
+        };
+        let k = t.counts;
+        let n = search::wide(k.nodes);
+        tree_bytes::write_tree_bytes(
+            &t.xs,
+            &t.ys,
+            &t.path,
+            &t.parent,
+            &t.kind,
+            &t.number,
+            &t.last,
+            &t.prev,
+            n,
+            f,
+            out,
+        )
+    }
+
+    // The allowance.
+    pub fn allowed(self) -> i32
+        ensures { λ r. ⌜ r ≡ treeOf self .allowed ⌝ }
+    {
+        self.allowed
+    }
+
+    // W, the largest distance of a terminal from the source when the tree was routed.
+    pub fn farthest(self) -> u32
+        ensures { λ r. ⌜ r ≡ treeOf self .farthest ⌝ }
+    {
+        self.farthest
+    }
+}
+
+// ---- edits
+
+// What an edit answers, and the tree: after a refusal, the one that came in.
+pub struct Edited {
+    pub answer: editing::Answer,
+    pub tree: GlobalRoutingTree,
+}
+
+// The tree g after an edit of its columns.
+fn finish(g: GlobalRoutingTree, e: Edit) -> Edited
+    requires { ⌜ Stored g × Tabled (e .table) ⌝ }
+    ensures { λ r. ⌜ Finished g e r ⌝ }
+{
+    let answer = e.answer;
+    match answer {
+        editing::Answer::Refused(n) => Edited {
+            answer: editing::Answer::Refused(n),
+            tree: g,
+        },
+        editing::Answer::Inserted(name) => {
+            let t = from_table(e.table);
+            Edited {
+                answer: editing::Answer::Inserted(name),
+                tree: t,
+            }
+        }
+    }
+}
+
+// A terminal at the query's point, where the search finds.
+fn insert_by_search(g: GlobalRoutingTree, query: Query, ks: &[i32]) -> Edited
+    requires { ⌜ Stored g ⌝ }
+    requires { ⌜ query .limit ≡ g .«worst_wirelength» ⌝ }
+    ensures { λ r. ⌜ EditedTo (insertTerminalWithConstraints (treeOf g) (query .point) (query .allowed) (keepoutsOf (now (ks .entry)))) g r ⌝ }
+{
+    let t = to_table(g);
+    let e = editing::insert_by_search(t, query, ks);
+    finish(g, e)
+}
+
+impl GlobalRoutingTree {
+    // A Steiner node below the parent, the source unless one is named. Refusals: 5, 7, 10.
+    pub fn insert_steiner_node(self, point: Point, parent: ParentName) -> Edited
+        requires { ⌜ Stored self ⌝ }
+        ensures { λ r. ⌜ EditedTo (insertSteinerNode (treeOf self) «point» (parentNameOf «parent»)) self r ⌝ }
+    {
+        let t = to_table(self);
+        let e = editing::insert_steiner_node(t, point, parent);
+        finish(self, e)
+    }
+
+    // A terminal below the parent, the closest node unless one is named. Refusals: 5, 7, 10.
+    pub fn insert_terminal_node(self, point: Point, parent: ParentName) -> Edited
+        requires { ⌜ Stored self ⌝ }
+        ensures { λ r. ⌜ EditedTo (insertTerminalNode (treeOf self) «point» (parentNameOf «parent»)) self r ⌝ }
+    {
+        let t = to_table(self);
+        let e = editing::insert_terminal_node(t, point, parent);
+        finish(self, e)
+    }
+
+    // A node on the branch between two nodes. Refusals: 5, 7, 9, 8, 10.
+    pub fn insert_node_on_branch(
+        self,
+        node_type: NodeType,
+        point: Point,
+        branch_start: NodeName,
+        branch_end: NodeName,
+    ) -> Edited
+        requires { ⌜ Stored self ⌝ }
+        ensures { λ r. ⌜ EditedTo (insertNodeOnBranch (treeOf self) (kindIn «node_type») «point» (nameIn «branch_start») (nameIn «branch_end»)) self r ⌝ }
+    {
+        let t = to_table(self);
+        let e = editing::insert_node_on_branch(t, node_type, point, branch_start, branch_end);
+        finish(self, e)
+    }
+
+    // A terminal where the search finds, with the tree's own limit as its allowance. The keepouts are flat: lower x, upper x, lower y, upper y of each.
+    // Refusals: 5, 2, 6, 10.
+    pub fn insert_terminal_with_steiner_flat(self, point: Point, keepouts: &[i32]) -> Edited
+        requires { ⌜ Stored self ⌝ }
+        ensures { λ r. ⌜ EditedTo (insertTerminalWithSteiner (treeOf self) «point» (keepoutsOf (now («keepouts» .entry)))) self r ⌝ }
+    {
+        let query = Query {
+            point: point,
+            limit: self.worst_wirelength,
+            allowed: self.worst_wirelength as i32,
+        };
+        insert_by_search(self, query, keepouts)
+    }
+
+    // The same with an allowance of one's own. Refusals: 5, 2, 6, 10.
+    pub fn insert_terminal_with_constraints_flat(
+        self,
+        point: Point,
+        allowed_wirelength: i32,
+        keepouts: &[i32],
+    ) -> Edited
+        requires { ⌜ Stored self ⌝ }
+        ensures { λ r. ⌜ EditedTo (insertTerminalWithConstraints (treeOf self) «point» «allowed_wirelength» (keepoutsOf (now («keepouts» .entry)))) self r ⌝ }
+    {
+        let query = Query {
+            point: point,
+            limit: self.worst_wirelength,
+            allowed: allowed_wirelength,
+        };
+        insert_by_search(self, query, keepouts)
+    }
+
+    // Without its one-child Steiner nodes.
+    pub fn optimize_steiner_points(self) -> GlobalRoutingTree
+        requires { ⌜ Stored self ⌝ }
+        ensures is { λ r. ⌜ treeOf r ≡ optimize (treeOf self) ⌝ }
+        ensures stored { λ r. ⌜ Stored r ⌝ }
+    {
+        let t = to_table(self);
+        let kept = table_steps::without_lone_nodes(t);
+        from_table(kept)
     }
 }
 

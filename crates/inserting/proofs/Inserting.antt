@@ -1,7 +1,7 @@
 -- What the two ways to insert a terminal need, and what they show: the closest node is the tree's, and the search's place is in the tree.
-use Prim.Native.Nat.{ℕ, suc, _≤_, _<_}
+use Prim.Native.Nat.{ℕ, _≤_, _<_}
 use mathlib.Core.Path.{_≡_, refl, ap, sym, subst, _∙_}
-use mathlib.Core.List.{List, []}
+use mathlib.Core.List.{List}
 use native.Mathlib.Omega.{arith}
 use lib.ListN.{length}
 use lib.IntN.{ℤ}
@@ -10,21 +10,21 @@ use Rattle.geometry.specs.Laws.{Within}
 use Rattle.tree.specs.Limits.{mostNodes, reach}
 use Rattle.tree.specs.Tree.{Node, Tree, terminal}
 use Rattle.tree.specs.Search as T
-use Rattle.tree.specs.Route.{newNode, closest, insertSimple, insert}
+use Rattle.tree.specs.Route.{closest, insertSimple, insert}
 use Rattle.tree.specs.Route as TR
 use Rattle.tree.specs.WellFormed.{WellFormed, Fits, newNodes}
 use Rattle.tree.proofs.Routing.{closest-in}
 use Rattle.tree.proofs.Fitting.{find-fits}
-use Rattle.tree.proofs.Forming.{attached}
+use Rattle.tree.specs.Edits.{attached}
 use Rattle.search.specs.declared.Query.{Query}
 use Rattle.search.specs.declared.Join.{Join}
 use Rattle.search.specs.Branch.{keepoutsOf}
 use Rattle.search.specs.Find.{joinOf, Ready, Joins}
 use Rattle.joining.specs.declared.Counts.{Counts}
-use Rattle.joining.specs.Store.{Columns}
+use Rattle.joining.specs.Store.{Store, columnsOf}
 use Rattle.joining.specs.Join.{terminalRow, oneMore, Attachable, RowAttached}
 use Rattle.joining.specs.Standing.{Stores, Standing, Anything, At, Joined}
-use Rattle.joining.proofs.Reading.{walks, kept}
+use Rattle.joining.proofs.Reading.{sized-columns, walks, kept}
 use Rattle.joining.proofs.Placing.{weaker, few, may-attach}
 use Rattle.joining.proofs.Growing.{stores-terminal, sized-terminal}
 use Rattle.inserting.specs.declared.Way.{Way}
@@ -32,10 +32,10 @@ use Rattle.inserting.specs.declared.Way.the-variants.{Simple, Search}
 use Rattle.inserting.specs.Insert.{Points, NearColumns, ClosestOf, InsertedSimple, QueryOf, Inserted}
 
 -- ---- at the closest node
-points-of : {t : Tree} {k : Counts} {c : Columns} → Stores t k c → Points (t .nodes) (k .nodes) (c .rows .xs) (c .rows .ys)
+points-of : {t : Tree} {k : Counts} {c : Store} → Stores t k c → Points (t .nodes) (k .nodes) (c .rows .xs) (c .rows .ys)
 points-of s = record { size = s .size; points = λ i h. sym (ap (λ (n : Node). n .point) (s .keeps .rows i (omega (arith, s .size)))) }
 
-module _ {q : Point} {k : Counts} {c : Columns} (v : Standing Anything 1 q k c) where
+module _ {q : Point} {k : Counts} {c : Store} (v : Standing Anything 1 q k c) where
   pub near-columns : NearColumns (k .nodes) (c .rows .xs) (c .rows .ys) q
   near-columns =
       record {
@@ -56,43 +56,43 @@ module _ {q : Point} {k : Counts} {c : Columns} (v : Standing Anything 1 q k c) 
     pub may-simple : Attachable c (k .nodes) p
     may-simple = may-attach v (omega arith) p (in-tree (v .tree) (v .formed) (v .stores))
 
-    pub did-simple : (c′ : Columns) → RowAttached c (k .nodes) (terminalRow p q 0 (k .terminal .0)) c′ → (r : Counts) → r ≡ oneMore k → InsertedSimple q k c r c′
+    pub did-simple : (c′ : Store) → RowAttached c (k .nodes) (terminalRow p q 0 (k .terminal .0)) c′ → (r : Counts) → r ≡ oneMore k → InsertedSimple q k c r c′
     unfolding insertSimple
     did-simple c′ o r ek =
         subst (λ (x : Counts). InsertedSimple q k c x c′) (sym ek)
         (record {
           stores = λ t f w s.
-              subst (λ (x : ℕ). Stores (attached t x (newNode (terminal (t .nextTerminal)) x q [] 0) (t .nextSteiner) (suc (t .nextTerminal))) (oneMore k) c′) (is t s)
+              subst (λ (x : ℕ). Stores (attached t (terminal (t .nextTerminal)) q x) (oneMore k) c′) (is t s)
               (stores-terminal t f k c s _ (v .sized) (omega (arith, v .room)) p (in-tree t f s) q 0 0 refl c′ o);
           sized = sized-terminal (v .tree) (v .formed) k c (v .stores) _ (v .sized) (omega (arith, v .room)) p (in-tree (v .tree) (v .formed) (v .stores)) q 0 0 refl c′ o;
         })
 
 -- ---- by the search
-module _ {k : Counts} {c : Columns} (a : Query) (v : Standing (QueryOf a) 2 (a .point) k c) where
+module _ {k : Counts} {c : Store} (a : Query) (v : Standing (QueryOf a) 2 (a .point) k c) where
   pub by-simple : Standing Anything 1 (a .point) k c
   by-simple = weaker v (λ h. tt) (omega arith)
 
-  pub did-by-simple : (way : Way) → way ≡ Simple → (ks : List ℤ) (r : Counts) (c′ : Columns) → InsertedSimple (a .point) k c r c′ → Inserted way ks a k c r c′
+  pub did-by-simple : (way : Way) → way ≡ Simple → (ks : List ℤ) (r : Counts) (c′ : Store) → InsertedSimple (a .point) k c r c′ → Inserted way ks a k c r c′
   did-by-simple way e ks r c′ o = subst (λ (x : Way). Inserted x ks a k c r c′) (sym e) (record { stores = λ t f h s. o .stores t f tt s; sized = o .sized })
 
   module _ (w : ℕ) (ew : w ≡ k .nodes) where
-    pub ready : Ready w a (c .rows .xs) (c .rows .ys) (c .rows .path) (c .last) (c .prev)
+    pub ready : Ready w a (c .rows .xs) (c .rows .ys) (c .rows .path) (c .links .last) (c .links .prev)
     ready =
         record {
           nodes = v .tree .nodes;
           size = v .stores .size ∙ sym ew;
           small = omega (arith, v .small);
-          kept = kept (v .tree) (v .formed) (few v) _ c (v .sized) (v .stores .keeps) (omega (arith, v .stores .size, v .room));
+          kept = kept (v .tree) (v .formed) (few v) _ (columnsOf c) (sized-columns (v .sized)) (v .stores .keeps) (omega (arith, v .stores .size, v .room));
           tree = walks (v .tree) (v .formed) (few v);
           within = v .within;
         }
 
-    module _ (ks : List ℤ) (j : Join) (joins : Joins w a (c .rows .xs) (c .rows .ys) (c .rows .path) (c .last) (c .prev) ks j) where
+    module _ (ks : List ℤ) (j : Join) (joins : Joins w a (c .rows .xs) (c .rows .ys) (c .rows .path) (c .links .last) (c .links .prev) ks j) where
       found-is : (t : Tree) → WellFormed t → QueryOf a t → Stores t k c → T.find (T.blocked (keepoutsOf ks)) (t .nodes) (t .limit) (t .allowed) (a .point) ≡ joinOf j
       found-is t f query s =
           let small : length (t .nodes) ≤ mostNodes = omega (arith, s .size, v .small) in
           (λ i. T.find (T.blocked (keepoutsOf ks)) (t .nodes) (query .limit i) (query .allowed i) (a .point))
-          ∙ sym (joins (t .nodes) (s .size ∙ sym ew) (walks t f small) (kept t f small _ c (v .sized) (s .keeps) (omega (arith, s .size, v .room))))
+          ∙ sym (joins (t .nodes) (s .size ∙ sym ew) (walks t f small) (kept t f small _ (columnsOf c) (sized-columns (v .sized)) (s .keeps) (omega (arith, s .size, v .room))))
 
       fits : (t : Tree) → WellFormed t → QueryOf a t → Stores t k c → At j t
       fits t f query s = subst (Fits (t .nodes)) (found-is t f query s) (find-fits (t .nodes) (f .linked) (T.blocked (keepoutsOf ks)) (t .limit) (t .allowed) (a .point))
@@ -104,7 +104,7 @@ module _ {k : Counts} {c : Columns} (a : Query) (v : Standing (QueryOf a) 2 (a .
           most (T.onto p) = omega arith
           most (T.split p d) = omega arith
 
-      pub did-search : (way : Way) → way ≡ Search → (r : Counts) (c′ : Columns) → Joined j (a .point) k c r c′ → Inserted way ks a k c r c′
+      pub did-search : (way : Way) → way ≡ Search → (r : Counts) (c′ : Store) → Joined j (a .point) k c r c′ → Inserted way ks a k c r c′
       unfolding insert
       did-search way e r c′ o =
           subst (λ (x : Way). Inserted x ks a k c r c′) (sym e)

@@ -20,10 +20,11 @@ use Rattle.search.specs.Walk.{pointAt}
 use Rattle.search.specs.Columns.{Chain}
 use Rattle.joining.specs.declared.Counts.{Counts}
 use Rattle.joining.specs.declared.Row.{Row}
-use Rattle.joining.specs.Store.{setRow, Rows, Columns, rowAt, nodeFrom, parentFrom, nodesOf, upTo, Sized, SizedRows, Keeps}
+use Rattle.joining.specs.Store.{setRow, Rows, Store, columnsOf, rowAt, nodeFrom, parentFrom, nodesOf, upTo, SizedStore, SizedRows, Keeps, Backs}
+use Rattle.joining.specs.Links.{BackedBy}
 use Rattle.joining.specs.Standing.{Standing}
 use Rattle.joining.proofs.Steps.{row-same, sized-row}
-use Rattle.joining.proofs.Reading.{nodes-are}
+use Rattle.joining.proofs.Reading.{sized-columns, nodes-are}
 use Rattle.inserting.specs.declared.Way.{Way}
 use Rattle.inserting.specs.declared.Way.the-variants.{Simple, Search}
 use Rattle.inserting.specs.Insert.{QueryOf, Inserted, stepOf}
@@ -31,16 +32,17 @@ use Rattle.inserting.specs.Route.{sourceRow, firsts, treeOf, treeIn, que
 
 -- ---- what holds before the loop, and at its head
 -- the source alone
-pub record Begun (c : Columns) (s : Point) (c′ : Columns) : Type 0 where
+pub record Begun (c : Store) (s : Point) (c′ : Store) : Type 0 where
   pub rows : c′ .rows ≡ setRow (c .rows) 0 (sourceRow s)
-  pub last : c′ .last ≡ set (c .last) 0 noNode
-  pub prev : c′ .prev ≡ c .prev
+  pub last : c′ .links .last ≡ set (c .links .last) 0 noNode
+  pub prev : c′ .links .prev ≡ c .links .prev
+  pub next : c′ .links .next ≡ c .links .next
 
 -- i terminals are in
-pub record Under (m : ℕ) (way : Way) (ks px py : List ℤ) (a : Query) (i : ℕ) (k : Counts) (c : Columns) : Type 0 where
+pub record Under (m : ℕ) (way : Way) (ks px py : List ℤ) (a : Query) (i : ℕ) (k : Counts) (c : Store) : Type 0 where
   pub low : i ≤ length px
   pub next : k .terminal .0 ≡ i + 1
-  pub sized : Sized m c
+  pub sized : SizedStore m c
   pub holds : (w : ℕ) → Holds a w k c (treeOf way ks px py a w i)
 
 -- ---- one more terminal
@@ -76,48 +78,56 @@ tree-next way ks px py a w i =
     ∙ inserts-snoc (stepOf way ks) (firsts px py i) (pointAt px py i) (rooted (a .point) (a .allowed) w (a .limit))
 
 -- ---- the source alone
-module _ (s : Point) (allowed : ℤ) (w limit : ℕ) (m : ℕ) (c c′ : Columns) (z : Sized m c) (room : 0 < m) (b : Begun c s c′) where
+module _ (s : Point) (allowed : ℤ) (w limit : ℕ) (m : ℕ) (c c′ : Store) (z : SizedStore m c) (room : 0 < m) (b : Begun c s c′) where
   abbrev t₀ : Tree
   t₀ = rooted s allowed w limit
 
   row-start : rowAt (c′ .rows) 0 ≡ sourceRow s
   row-start = ap (λ (r : Rows). rowAt r 0) (b .rows) ∙ row-same m (c .rows) 0 (sourceRow s) (z .rows) room
 
-  end-start : getD (c′ .last) 0 0 ≡ noNode
-  end-start = ap (λ (l : List ℕ). getD l 0 0) (b .last) ∙ getD-set-same (c .last) 0 noNode 0 (omega (arith, z .last))
+  end-start : getD (c′ .links .last) 0 0 ≡ noNode
+  end-start = ap (λ (l : List ℕ). getD l 0 0) (b .last) ∙ getD-set-same (c .links .last) 0 noNode 0 (omega (arith, z .links .last))
 
-  keeps-start : Keeps (t₀ .nodes) c′
+  keeps-start : Keeps (t₀ .nodes) (columnsOf c′)
   keeps-start = record { rows = rows; children = children }
     where
       rows : (i : ℕ) → i < 1 → nodeAt (t₀ .nodes) i ≡ nodeFrom (rowAt (c′ .rows) i) (nodeAt (t₀ .nodes) i .children)
       rows zero h = unfold nodeAt parentFrom in ap (λ (r : Row). nodeFrom r []) (sym row-start)
       rows (suc i) h = absurd (omega arith)
 
-      children : (i : ℕ) → i < 1 → Chain (c′ .prev) (getD (c′ .last) i 0) (reverse (nodeAt (t₀ .nodes) i .children))
+      children : (i : ℕ) → i < 1 → Chain (c′ .links .prev) (getD (c′ .links .last) i 0) (reverse (nodeAt (t₀ .nodes) i .children))
       children zero h = unfold nodeAt Chain in end-start
       children (suc i) h = absurd (omega arith)
 
-  sized-start : Sized m c′
+  -- the source has no children
+  backs-start : Backs (t₀ .nodes) (c′ .links .next)
+  backs-start zero h = unfold nodeAt BackedBy in tt
+  backs-start (suc i) h = absurd (omega arith)
+
+  sized-start : SizedStore m c′
   sized-start =
       record {
         rows = subst (SizedRows m) (sym (b .rows)) (sized-row m (c .rows) 0 (sourceRow s) (z .rows));
-        last = ap length (b .last) ∙ length-set (c .last) 0 noNode ∙ z .last;
-        prev = ap length (b .prev) ∙ z .prev;
-        few = z .few;
+        links = record {
+          last = ap length (b .last) ∙ length-set (c .links .last) 0 noNode ∙ z .links .last;
+          prev = ap length (b .prev) ∙ z .links .prev;
+          next = ap length (b .next) ∙ z .links .next;
+          few = z .links .few;
+        };
       }
 
 -- ---- the loop
-module _ (way : Way) (ks px py : List ℤ) (a : Query) (c₀ : Columns) (v : Routable px py a c₀) where
+module _ (way : Way) (ks px py : List ℤ) (a : Query) (c₀ : Store) (v : Routable px py a c₀) where
   abbrev m : ℕ
-  m = length (c₀ .prev)
+  m = length (c₀ .links .prev)
 
-  z₀ : Sized m c₀
-  z₀ = subst (λ (n : ℕ). Sized n c₀) (sym (v .sized .prev)) (v .sized)
+  z₀ : SizedStore m c₀
+  z₀ = subst (λ (n : ℕ). SizedStore n c₀) (sym (v .sized .links .prev)) (v .sized)
 
   wide-enough : 2 * length px + 1 ≤ m
-  wide-enough = omega (arith, v .room, v .sized .prev)
+  wide-enough = omega (arith, v .room, v .sized .links .prev)
 
-  pub starts : (c : Columns) → Begun c₀ (a .point) c → Under m way ks px py a 0 (record { nodes = 1; steiner = record { 0 = 1 }; terminal = record { 0 = 1 } }) c
+  pub starts : (c : Store) → Begun c₀ (a .point) c → Under m way ks px py a 0 (record { nodes = 1; steiner = record { 0 = 1 }; terminal = record { 0 = 1 } }) c
   unfolding treeOf upTo inserts
   starts c b =
       record {
@@ -132,13 +142,14 @@ module _ (way : Way) (ks px py : List ℤ) (a : Query) (c₀ : Columns) (v : Rou
             steiner = refl;
             terminal = refl;
             keeps = keeps-start (a .point) (a .allowed) w (a .limit) m c₀ c z₀ (omega (arith, wide-enough)) b;
+            backs = backs-start (a .point) (a .allowed) w (a .limit) m c₀ c z₀ (omega (arith, wide-enough)) b;
           };
           query = record { limit = refl; allowed = refl };
           farthest = refl;
         };
       }
 
-  module _ (i : ℕ) (k : Counts) (c : Columns) (u : Under m way ks px py a i k c) where
+  module _ (i : ℕ) (k : Counts) (c : Store) (u : Under m way ks px py a i k c) where
     -- each terminal brought at most two nodes
     nodes-low : k .nodes ≤ 2 * i + 1
     nodes-low = let h = u .holds 0 in omega (arith, h .counted .size, h .counted .steiners, h .stores .size, h .stores .terminal, u .next)
@@ -150,13 +161,13 @@ module _ (way : Way) (ks px py : List ℤ) (a : Query) (c₀ : Columns) (v : Rou
           tree = λ w. whole w (treeOf way ks px py a w (length px)) (holds w);
           holds = holds;
           next = u .next ∙ ap (λ (n : ℕ). n + 1) e;
-          sized = subst (λ (n : ℕ). Sized n c) (sym (u .sized .rows .xs)) (u .sized);
+          sized = subst (λ (n : ℕ). SizedStore n c) (sym (u .sized .rows .xs)) (u .sized);
         }
       where
         whole : (w : ℕ) (t : Tree) → Holds a w k c t → treeIn c k a w ≡ t
         whole w t h =
-            let nodes : nodesOf c (k .nodes) ≡ t .nodes = ap (nodesOf c) (sym (h .stores .size))
-            ∙ nodes-are t (h .formed) (omega (arith, h .stores .size, nodes-low, v .few, u .low)) m c (u .sized) (h .stores .keeps) (omega (arith, h .stores .size, nodes-low, u .low, wide-enough)) in
+            let nodes : nodesOf (columnsOf c) (k .nodes) ≡ t .nodes = ap (nodesOf (columnsOf c)) (sym (h .stores .size))
+            ∙ nodes-are t (h .formed) (omega (arith, h .stores .size, nodes-low, v .few, u .low)) m (columnsOf c) (sized-columns (u .sized)) (h .stores .keeps) (omega (arith, h .stores .size, nodes-low, u .low, wide-enough)) in
             λ j. record {
               nodes = nodes j;
               allowed = sym (h .query .allowed) j;
@@ -176,20 +187,20 @@ module _ (way : Way) (ks px py : List ℤ) (a : Query) (c₀ : Columns) (v : Rou
             formed = h .formed;
             stores = h .stores;
             when = record { limit = h .query .limit; allowed = h .query .allowed };
-            sized = subst (λ (n : ℕ). Sized n c) (sym (u .sized .rows .xs)) (u .sized);
+            sized = subst (λ (n : ℕ). SizedStore n c) (sym (u .sized .rows .xs)) (u .sized);
             room = omega (arith, nodes-low, wide-enough, u .sized .rows .xs);
             small = omega (arith, nodes-low, v .few);
             steiner = omega (arith, h .counted .steiners, h .stores .steiner, h .stores .terminal, u .next, v .few);
             within = v .near i more;
           })
 
-      pub turn : (r : Counts) (c′ : Columns) → Inserted way ks b k c r c′ → Under m way ks px py a (i + 1) r c′
+      pub turn : (r : Counts) (c′ : Store) → Inserted way ks b k c r c′ → Under m way ks px py a (i + 1) r c′
       turn r c′ o₀ =
           let o : Inserted way ks (queryAt px py i a) k c r c′ = subst (λ (x : Query). Inserted way ks x k c r c′) eb o₀ in
           record {
             low = omega arith;
             next = omega (arith, o .stores (treeOf way ks px py a 0 i) (u .holds 0 .formed) (record { limit = u .holds 0 .query .limit; allowed = u .holds 0 .query .allowed }) (u .holds 0 .stores) .terminal, carried-step way ks (treeOf way ks px py a 0 i) (pointAt px py i) .next, u .holds 0 .stores .terminal, u .next);
-            sized = subst (λ (n : ℕ). Sized n c′) (u .sized .rows .xs) (o .sized);
+            sized = subst (λ (n : ℕ). SizedStore n c′) (u .sized .rows .xs) (o .sized);
             holds = λ w. subst (Holds a w r c′) (sym (tree-next way ks px py a w i)) (after (treeOf way ks px py a w i) w (u .holds w) o);
           }
         where

@@ -13,7 +13,7 @@ use Rattle.search.specs.declared.Query.{Query}
 use Rattle.search.specs.Branch.{keepoutsOf}
 use Rattle.search.specs.Walk.{pointAt}
 use Rattle.joining.specs.declared.Counts.{Counts}
-use Rattle.joining.specs.Store.{Columns}
+use Rattle.joining.specs.Store.{Store}
 use Rattle.joining.specs.Standing.{Grows, Anything}
 use Rattle.inserting.specs.declared.Way.{Way}
 use Rattle.inserting.specs.declared.Way.the-variants.{Simple, Search}
@@ -37,8 +37,7 @@ abbrev pub ClosestOf : ℕ → ℕ → List ℤ → List ℤ → Point → ℕ �
 ClosestOf i n xs ys q r = (ns : List Node) → Points ns n xs ys → r ≡ closest ns q i
 
 -- a terminal at q has joined the closest node
--- the query's point has been inserted
-abbrev pub InsertedSimple : Point → Counts → Columns → Counts → Columns → Type 0
+abbrev pub InsertedSimple : Point → Counts → Store → Counts → Store → Type 0
 InsertedSimple q = Grows Anything (λ t. insertSimple t q)
 
 -- ---- either way
@@ -53,5 +52,5 @@ stepOf Simple ks = insertSimple
 stepOf Search ks = insert (keepoutsOf ks)
 
 -- the query's point has been inserted
-abbrev pub Inserted : Way → List ℤ → Query → Counts → Columns → Counts → Columns → Type 0
+abbrev pub Inserted : Way → List ℤ → Query → Counts → Store → Counts → Store → Type 0
 Inserted way ks a = Grows (QueryOf a) (λ t. stepOf way ks t (a .point))

@@ -14,7 +14,7 @@ use Rattle.search.specs.declared.Query.{Query}
 use Rattle.search.specs.Walk.{nodeIndex, pointAt}
 use Rattle.joining.specs.declared.Row.{Row}
 use Rattle.joining.specs.declared.Counts.{Counts}
-use Rattle.joining.specs.Store.{Columns, Sized, upTo, nodesOf}
+use Rattle.joining.specs.Store.{Store, columnsOf, SizedStore, upTo, nodesOf}
 use Rattle.joining.specs.Standing.{Stores}
 use Rattle.inserting.specs.declared.Way.{Way}
 use Rattle.inserting.specs.Insert.{QueryOf, stepOf}
@@ -32,16 +32,16 @@ unfoldable pub treeOf : Way → List ℤ → List ℤ → List ℤ → Query →
 treeOf way ks px py a w i = inserts (stepOf way ks) (firsts px py i) (rooted (a .point) (a .allowed) w (a .limit))
 
 -- the tree that the columns and the counts hold
-abbrev pub treeIn : Columns → Counts → Query → ℕ → Tree
-treeIn c k a w = record { nodes = nodesOf c (k .nodes); allowed = a .allowed; farthest = w; limit = a .limit; nextSteiner = k .steiner .0; nextTerminal = k .terminal .0 }
+abbrev pub treeIn : Store → Counts → Query → ℕ → Tree
+treeIn c k a w = record { nodes = nodesOf (columnsOf c) (k .nodes); allowed = a .allowed; farthest = w; limit = a .limit; nextSteiner = k .steiner .0; nextTerminal = k .terminal .0 }
 
 -- the query for the i-th terminal
 abbrev pub queryAt : List ℤ → List ℤ → ℕ → Query → Query
 queryAt px py i a = record { point = pointAt px py i; limit = a .limit; allowed = a .allowed }
 
 -- what a route asks: terminals within the limit, not too many, and columns with room for two nodes for each
-pub record Routable (px py : List ℤ) (a : Query) (c : Columns) : Type 0 where
-  pub sized : Sized (length (c .rows .xs)) c
+pub record Routable (px py : List ℤ) (a : Query) (c : Store) : Type 0 where
+  pub sized : SizedStore (length (c .rows .xs)) c
   pub room : 2 * length px + 1 ≤ length (c .rows .xs)
   pub few : length px ≤ mostTerminals
   pub both : length py ≡ length px
@@ -49,7 +49,7 @@ pub record Routable (px py : List ℤ) (a : Query) (c : Columns) : Type 0 where
   pub near : (i : ℕ) → i < length px → Within reach (pointAt px py i)
 
 -- a route has the tree t in the columns; a is its query, and w the farthest distance
-pub record Holds (a : Query) (w : ℕ) (k : Counts) (c : Columns) (t : Tree) : Type 0 where
+pub record Holds (a : Query) (w : ℕ) (k : Counts) (c : Store) (t : Tree) : Type 0 where
   pub formed : WellFormed t
   pub counted : Counted t
   pub stores : Stores t k c
@@ -57,8 +57,8 @@ pub record Holds (a : Query) (w : ℕ) (k : Counts) (c : Columns) (t : Tree) : T
   pub farthest : t .farthest ≡ w
 
 -- all terminals are in: the columns and counts give the whole tree, which is well formed
-pub record Routed (way : Way) (ks px py : List ℤ) (a : Query) (k : Counts) (c : Columns) : Type 0 where
+pub record Routed (way : Way) (ks px py : List ℤ) (a : Query) (k : Counts) (c : Store) : Type 0 where
   pub tree : (w : ℕ) → treeIn c k a w ≡ treeOf way ks px py a w (length px)
   pub holds : (w : ℕ) → Holds a w k c (treeOf way ks px py a w (length px))
   pub next : k .terminal .0 ≡ length px + 1
-  pub sized : Sized (length (c .rows .xs)) c
+  pub sized : SizedStore (length (c .rows .xs)) c

@@ -10,7 +10,8 @@ ghost use mathlib.Core.Path.{_≡_};
 ghost use Prim.Native.Nat.{ℕ, _<_};
 ghost use lib.ListN.{length, set};
 ghost use Rattle.tree.specs.Limits.{noNode};
-ghost use Rattle.joining.specs.Store.{rowsOf, columns, setRow, SizedRows};
+ghost use Rattle.joining.specs.Links.{links};
+ghost use Rattle.joining.specs.Store.{rowsOf, store, setRow, SizedRows};
 ghost use Rattle.joining.specs.Standing.{Standing, Anything};
 ghost use Rattle.inserting.specs.Insert.{NearColumns, ClosestOf, InsertedSimple, QueryOf, Inserted};
 ghost use Rattle.inserting.specs.Route.{sourceRow, queryAt, Routable, Routed};
@@ -58,11 +59,12 @@ pub fn insert_simple(
     number: &mut [u16],
     last: &mut [u16],
     prev: &mut [u16],
+    next: &mut [u16],
     k: Counts,
     q: Point,
 ) -> Counts
-    requires { ⌜ Standing Anything 1 q k (columns (rowsOf (now xs) (now ys) (now path) (now parent) (now kind) (now number)) (now last) (now prev)) ⌝ }
-    ensures { λ r. ⌜ InsertedSimple q k (columns (rowsOf (now (xs .entry)) (now (ys .entry)) (now (path .entry)) (now (parent .entry)) (now (kind .entry)) (now (number .entry))) (now (last .entry)) (now (prev .entry))) r (columns (rowsOf (now (xs .exit)) (now (ys .exit)) (now (path .exit)) (now (parent .exit)) (now (kind .exit)) (now (number .exit))) (now (last .exit)) (now (prev .exit))) ⌝ }
+    requires { ⌜ Standing Anything 1 q k (store (rowsOf (now xs) (now ys) (now path) (now parent) (now kind) (now number)) (links (now last) (now prev) (now next))) ⌝ }
+    ensures { λ r. ⌜ InsertedSimple q k (store (rowsOf (now (xs .entry)) (now (ys .entry)) (now (path .entry)) (now (parent .entry)) (now (kind .entry)) (now (number .entry))) (links (now (last .entry)) (now (prev .entry)) (now (next .entry)))) r (store (rowsOf (now (xs .exit)) (now (ys .exit)) (now (path .exit)) (now (parent .exit)) (now (kind .exit)) (now (number .exit))) (links (now (last .exit)) (now (prev .exit)) (now (next .exit)))) ⌝ }
 {
     let p = find_nearest_node(xs, ys, k.nodes, q);
     let row = Row {
@@ -73,7 +75,7 @@ pub fn insert_simple(
         number: k.terminal.0,
     };
     let n = NodeIndex(k.nodes);
-    joining::attach(xs, ys, path, parent, kind, number, last, prev, n, row);
+    joining::attach(xs, ys, path, parent, kind, number, last, prev, next, n, row);
     joining::one_more(k)
 }
 
@@ -87,21 +89,35 @@ pub fn insert_terminal(
     number: &mut [u16],
     last: &mut [u16],
     prev: &mut [u16],
+    next: &mut [u16],
     k: Counts,
     way: Way,
     query: Query,
     ks: &[i32],
 ) -> Counts
-    requires { ⌜ Standing (QueryOf query) 2 (query .point) k (columns (rowsOf (now xs) (now ys) (now path) (now parent) (now kind) (now number)) (now last) (now prev)) ⌝ }
-    ensures { λ r. ⌜ Inserted way (now (ks .entry)) query k (columns (rowsOf (now (xs .entry)) (now (ys .entry)) (now (path .entry)) (now (parent .entry)) (now (kind .entry)) (now (number .entry))) (now (last .entry)) (now (prev .entry))) r (columns (rowsOf (now (xs .exit)) (now (ys .exit)) (now (path .exit)) (now (parent .exit)) (now (kind .exit)) (now (number .exit))) (now (last .exit)) (now (prev .exit))) ⌝ }
+    requires { ⌜ Standing (QueryOf query) 2 (query .point) k (store (rowsOf (now xs) (now ys) (now path) (now parent) (now kind) (now number)) (links (now last) (now prev) (now next))) ⌝ }
+    ensures { λ r. ⌜ Inserted way (now (ks .entry)) query k (store (rowsOf (now (xs .entry)) (now (ys .entry)) (now (path .entry)) (now (parent .entry)) (now (kind .entry)) (now (number .entry))) (links (now (last .entry)) (now (prev .entry)) (now (next .entry)))) r (store (rowsOf (now (xs .exit)) (now (ys .exit)) (now (path .exit)) (now (parent .exit)) (now (kind .exit)) (now (number .exit))) (links (now (last .exit)) (now (prev .exit)) (now (next .exit)))) ⌝ }
 {
     let q = query.point;
     match way {
-        Way::Simple => insert_simple(xs, ys, path, parent, kind, number, last, prev, k, q),
+        Way::Simple => insert_simple(xs, ys, path, parent, kind, number, last, prev, next, k, q),
         Way::Search => {
             let n = search::wide(k.nodes);
             let j = search::find_insertion_point(n, query, xs, ys, path, last, prev, ks);
-            joining::join(xs, ys, path, parent, kind, number, last, prev, k, q, j)
+            joining::join(
+                xs,
+                ys,
+                path,
+                parent,
+                kind,
+                number,
+                last,
+                prev,
+                next,
+                k,
+                q,
+                j,
+            )
         }
     }
 }
@@ -159,14 +175,15 @@ pub fn route_sorted<'a>(
     number: &mut [u16],
     last: &mut [u16],
     prev: &mut [u16],
+    next: &mut [u16],
     px: &'a [i32],
     py: &'a [i32],
     ks: &'a [i32],
     way: Way,
     a: Query,
 ) -> Counts
-    requires { ⌜ Routable (now px) (now py) a (columns (rowsOf (now xs) (now ys) (now path) (now parent) (now kind) (now number)) (now last) (now prev)) ⌝ }
-    ensures { λ r. ⌜ Routed way (now (ks .entry)) (now (px .entry)) (now (py .entry)) a r (columns (rowsOf (now (xs .exit)) (now (ys .exit)) (now (path .exit)) (now (parent .exit)) (now (kind .exit)) (now (number .exit))) (now (last .exit)) (now (prev .exit))) ⌝ }
+    requires { ⌜ Routable (now px) (now py) a (store (rowsOf (now xs) (now ys) (now path) (now parent) (now kind) (now number)) (links (now last) (now prev) (now next))) ⌝ }
+    ensures { λ r. ⌜ Routed way (now (ks .entry)) (now (px .entry)) (now (py .entry)) a r (store (rowsOf (now (xs .exit)) (now (ys .exit)) (now (path .exit)) (now (parent .exit)) (now (kind .exit)) (now (number .exit))) (links (now (last .exit)) (now (prev .exit)) (now (next .exit)))) ⌝ }
 {
     let s = a.point;
     store_source(xs, ys, path, parent, kind, number, last, s);
@@ -189,6 +206,7 @@ pub fn route_sorted<'a>(
             number,
             last,
             prev,
+            next,
             k,
             way,
             b,

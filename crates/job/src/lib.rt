@@ -194,7 +194,7 @@ fn far_out(s: &[u8]) -> bool
 }
 
 // Test 6 of one keepout.
-fn invalid_keepout(k: Rectangle) -> bool
+pub fn invalid_keepout(k: Rectangle) -> bool
     ensures { λ r. ⌜ r ≡ invalidKeepout k ⌝ }
 {
     let x = k.xcoord;

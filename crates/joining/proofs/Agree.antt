@@ -1,7 +1,7 @@
 -- A tree whose links agree is one that the search can walk: lists of children as counts, and as members.
 use Prim.Native.Nat.{ℕ, zero, suc, _≤_, _<_}
 use mathlib.Core.Path.{_≡_, refl, ap, sym, _∙_}
-use mathlib.Core.Logic.{_⊎_, inl, inr, ⊎-elim}
+use mathlib.Core.Logic.{_≢_, _⊎_, inl, inr, ⊎-elim}
 use mathlib.Core.Bool.{Bool, true, false}
 use mathlib.Core.List.{List, [], _∷_, reverse, reverse-cons}
 use native.Mathlib.Omega.{arith}
@@ -68,6 +68,10 @@ module _ (ns : List Node) (g : Linked ns) where
 
   pub once : (p : ℕ) → Distinct (examined ns p)
   once p = distinct-of (examined ns p) (λ x. omega (arith, count-reverse x (nodeAt ns p .children), g .links p x, is-most p (nodeAt ns x .parent)))
+
+  -- no node is a child of two
+  pub apart : (p q : ℕ) → p ≢ q → (x : ℕ) → Has x (examined ns p) → Has x (examined ns q) → ⊥
+  apart p q n x a b = n (at-inj (sym (child-of p x a) ∙ child-of q x b))
 
   -- no list of children has a number past the end
   pub no-child : (p c : ℕ) → length ns ≤ c → Has c (examined ns p) → ⊥

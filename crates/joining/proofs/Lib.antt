@@ -1,9 +1,10 @@
 pub mod Moves
+pub mod Backing
 pub mod Lists
-pub mod Predecessor
 pub mod Agree
 pub mod Steps
 pub mod Attaching
+pub mod Between
 pub mod Splitting
 pub mod Rowing
 pub mod Reading

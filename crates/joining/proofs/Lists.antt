@@ -1,8 +1,10 @@
--- Appending a child and taking one out, as what they do to the lists of children that the columns hold.
+-- Appending a child and taking one out, as what they do to the lists of children that the links hold both ways.
 use Prim.Native.Nat.{ℕ, _≤_, _<_}
-use mathlib.Core.Path.{_≡_, refl, _∙_, subst}
+use mathlib.Core.Path.{_≡_, refl, sym, _∙_, subst}
 use mathlib.Core.Bool.{Bool, true, false, cond}
+use mathlib.Core.Logic.{_≢_}
 use mathlib.Core.List.{List, [], _∷_, _++_, reverse, reverseAux, reverse-append}
+use native.Mathlib.Omega.{arith}
 use lib.ListN.{length, getD, set}
 use lib.Dec.{eqb}
 use lib.Seq.{getD-set-same, getD-set-other}
@@ -10,10 +12,11 @@ use borrow.Author.Tests.{eqb-true, eqb-false}
 use Rattle.tree.specs.Limits.{noNode}
 use Rattle.tree.specs.Tree.{without}
 use Rattle.search.specs.Columns.{chain, Chain, Has, Distinct}
-use Rattle.search.proofs.Distinct.{away-of}
+use Rattle.search.proofs.Distinct.{away-of, has-without, distinct-without, pigeon}
 use Rattle.search.proofs.Chains.{chain-is}
-use Rattle.joining.specs.Links.{ChildrenAre, beforeOf, Attached, Detached}
-use Rattle.joining.proofs.Moves.{chain-keep, chain-attach, chain-first, chain-middle, before-has}
+use Rattle.joining.specs.Links.{ChildrenAre, BackedBy, Links, SizedLinks, beforeOf, Attached, Detached}
+use Rattle.joining.proofs.Moves.{chain-keep, chain-attach, chain-first, chain-middle, before-in}
+use Rattle.joining.proofs.Backing.{chain-in, start-away, backed-keep, backed-attach, backed-leave, backed-other}
 
 without-aux : (c : ℕ) (l r : List ℕ) → without c (reverseAux l r) ≡ reverseAux (without c l) (without c r)
 unfolding without
@@ -28,49 +31,94 @@ without-reverse : (c : ℕ) (l : List ℕ) → without c (reverse l) ≡ reverse
 unfolding without
 without-reverse c l = without-aux c l []
 
-module _ (last prev last′ prev′ : List ℕ) (p c : ℕ) (in-last : p < length last) (in-prev : c < length prev) (v : Attached last prev p c last′ prev′) where
-  pub attach-own : (cs : List ℕ) → ChildrenAre last prev p cs → (Has c (reverse cs) → ⊥) → ChildrenAre last′ prev′ p (cs ++ (c ∷ []))
-  attach-own cs h f =
-      rw (v .lasts, v .prevs, getD-set-same last p c 0 in-last, reverse-append cs (c ∷ []))
-      (chain-attach prev (getD last p 0) c (reverse cs) in-prev (away-of c (reverse cs) f) h)
+-- the links hold the children cs of p
+pub record Held (l : Links) (p : ℕ) (cs : List ℕ) : Type 0 where
+  pub chain : ChildrenAre (l .last) (l .prev) p cs
+  pub back : BackedBy (l .next) noNode (reverse cs)
 
-  pub attach-other : (q : ℕ) (cs : List ℕ) → (q ≡ p → ⊥) → ChildrenAre last prev q cs → (Has c (reverse cs) → ⊥) → ChildrenAre last′ prev′ q cs
-  attach-other q cs n h f =
-      rw (v .lasts, v .prevs, getD-set-other last p q c 0 n) (chain-keep prev c (getD last p 0) (getD last q 0) (reverse cs) (away-of c (reverse cs) f) h)
+-- no child is in both
+abbrev pub Apart : List ℕ → List ℕ → Type 0
+Apart cs ds = (x : ℕ) → Has x (reverse cs) → Has x (reverse ds) → ⊥
 
-module _ (last prev last′ prev′ : List ℕ) (p c : ℕ) (in-last : p < length last) (few : length prev ≤ noNode) (v : Detached last prev p c last′ prev′)
-    (cs : List ℕ) (h : ChildrenAre last prev p cs) (short : length (reverse cs) ≤ length prev) (has : Has c (reverse cs)) (once : Distinct (reverse cs)) where
-  is : chain prev (getD last p 0) ≡ reverse cs
-  is = chain-is (length prev) prev (getD last p 0) (reverse cs) few h short
+pub apart-without : (c : ℕ) (cs ds : List ℕ) → Apart cs ds → Apart (without c cs) ds
+apart-without c cs ds f x a b = has-without c x (reverse cs) (λ z n. f x z b) (subst (Has x) (sym (without-reverse c cs)) a)
 
-  pub detach-own : ChildrenAre last′ prev′ p (without c cs)
+pub once-without : (c : ℕ) (cs : List ℕ) → Distinct (reverse cs) → Distinct (reverse (without c cs))
+once-without c cs d = subst Distinct (without-reverse c cs) (distinct-without c (reverse cs) d)
+
+short : {m : ℕ} {l : Links} → SizedLinks m l → length (l .prev) ≤ noNode
+short z = omega (arith, z .prev, z .few)
+
+-- ---- c goes last among p's children
+module _ (m : ℕ) (l l′ : Links) (z : SizedLinks m l) (p c : ℕ) (hp : p < m) (hc : c < m) (v : Attached l p c l′) (cs : List ℕ) (h : Held l p cs) where
+  abbrev end : ℕ
+  end = getD (l .last) p 0
+
+  pub attach-own : Distinct (reverse cs) → (Has c (reverse cs) → ⊥) → Held l′ p (cs ++ (c ∷ []))
+  attach-own d f =
+      record {
+        chain = rw (v .lasts, v .prevs, getD-set-same (l .last) p c 0 (omega (arith, z .last)), reverse-append cs (c ∷ []))
+            (chain-attach (l .prev) end c (reverse cs) (omega (arith, z .prev)) (away-of c (reverse cs) f) (h .chain));
+        back = rw (v .nexts, reverse-append cs (c ∷ []))
+            (backed-attach (l .prev) (short z) (l .next) end c (reverse cs) (z .next ∙ sym (z .prev)) (omega (arith, z .prev)) f d (h .chain) (h .back));
+      }
+
+  pub attach-other : (q : ℕ) (ds : List ℕ) → q ≢ p → Held l q ds → (Has c (reverse ds) → ⊥) → Apart cs ds → Held l′ q ds
+  attach-other q ds n g f apart =
+      record {
+        chain = rw (v .lasts, v .prevs, getD-set-other (l .last) p q c 0 n)
+            (chain-keep (l .prev) c end (getD (l .last) q 0) (reverse ds) (away-of c (reverse ds) f) (g .chain));
+        back = rw (v .nexts)
+            (backed-keep (set (l .next) c noNode) end c noNode (reverse ds)
+            (start-away (l .prev) (short z) end (getD (l .last) q 0) (reverse cs) (reverse ds) (h .chain) (g .chain) apart)
+            (backed-keep (l .next) c noNode noNode (reverse ds) (away-of c (reverse ds) f) (g .back)));
+      }
+
+-- ---- c leaves p's children
+module _ (m : ℕ) (l l′ : Links) (z : SizedLinks m l) (p c : ℕ) (hp : p < m) (v : Detached l p c l′) (cs : List ℕ) (h : Held l p cs) (has : Has c (reverse cs)) (once : Distinct (reverse cs)) where
+  abbrev from : ℕ
+  from = getD (l .last) p 0
+
+  abbrev past : ℕ
+  past = getD (l .prev) c 0
+
+  is : chain (l .prev) from ≡ reverse cs
+  is = chain-is (length (l .prev)) (l .prev) from (reverse cs) (short z) (h .chain) (pigeon (length (l .prev)) (reverse cs) once (λ x a. chain-in (l .prev) from x (reverse cs) (h .chain) a))
+
+  lasts : Bool → List ℕ
+  lasts t = cond t (set (l .last) p past) (l .last)
+
+  prevs : Bool → List ℕ
+  prevs t = cond t (l .prev) (set (l .prev) (beforeOf (reverse cs) c) past)
+
+  pub detach-own : Held l′ p (without c cs)
+  unfolding lasts prevs
   detach-own =
-      rw (v .lasts, v .prevs, is)
-      (subst (λ (l : List ℕ). Chain (prevs (eqb (getD last p 0) c)) (getD (lasts (eqb (getD last p 0) c)) p 0) l) (without-reverse c cs) (by (eqb (getD last p 0) c) refl))
+      record {
+        chain = rw (v .lasts, v .prevs, is)
+            (subst (λ (k : List ℕ). Chain (prevs (eqb from c)) (getD (lasts (eqb from c)) p 0) k) (without-reverse c cs) (by (eqb from c) refl));
+        back = rw (v .nexts)
+            (subst (BackedBy (set (l .next) past (getD (l .next) c 0)) noNode) (without-reverse c cs)
+            (backed-leave (l .prev) (short z) (l .next) from c noNode (reverse cs) (z .next ∙ sym (z .prev)) once has (h .chain) (h .back)));
+      }
     where
-      lasts : Bool → List ℕ
-      lasts t = cond t (set last p (getD prev c 0)) last
-
-      prevs : Bool → List ℕ
-      prevs t = cond t prev (set prev (beforeOf (reverse cs) c) (getD prev c 0))
-
-      by : (t : Bool) → eqb (getD last p 0) c ≡ t → Chain (prevs t) (getD (lasts t) p 0) (without c (reverse cs))
+      by : (t : Bool) → eqb from c ≡ t → Chain (prevs t) (getD (lasts t) p 0) (without c (reverse cs))
       by true e =
-          rw (getD-set-same last p (getD prev c 0) 0 in-last)
-          (chain-first prev c (reverse cs) once has (subst (λ (m : ℕ). Chain prev m (reverse cs)) (eqb-true _ _ e) h))
-      by false e = chain-middle prev (getD last p 0) c (reverse cs) once has (eqb-false _ _ e) h
+          rw (getD-set-same (l .last) p past 0 (omega (arith, z .last)))
+          (chain-first (l .prev) c (reverse cs) once has (subst (λ (n : ℕ). Chain (l .prev) n (reverse cs)) (eqb-true _ _ e) (h .chain)))
+      by false e = chain-middle (l .prev) from c (reverse cs) once has (eqb-false _ _ e) (h .chain)
 
-  has-some : (l : List ℕ) → Has c l → Has (beforeOf l c) l
-  unfolding Has
-  has-some [] z = absurd z
-  has-some (x ∷ l) z = before-has x l c
-
-  pub detach-other : (q : ℕ) (ds : List ℕ) → (q ≡ p → ⊥) → ChildrenAre last prev q ds → ((x : ℕ) → Has x (reverse cs) → Has x (reverse ds) → ⊥) → ChildrenAre last′ prev′ q ds
-  detach-other q ds n k f =
-      rw (v .lasts, v .prevs, is) (by (eqb (getD last p 0) c))
+  pub detach-other : (q : ℕ) (ds : List ℕ) → q ≢ p → Held l q ds → Apart cs ds → Held l′ q ds
+  unfolding lasts prevs
+  detach-other q ds n g apart =
+      record {
+        chain = rw (v .lasts, v .prevs, is) (by (eqb from c));
+        back = rw (v .nexts)
+            (backed-other (l .prev) (short z) (l .next) from (getD (l .last) q 0) c (getD (l .next) c 0) (reverse cs) (reverse ds) has (h .chain) (g .chain) apart (g .back));
+      }
     where
-      by : (t : Bool) → Chain (cond t prev (set prev (beforeOf (reverse cs) c) (getD prev c 0))) (getD (cond t (set last p (getD prev c 0)) last) q 0) (reverse ds)
-      by true = rw (getD-set-other last p q (getD prev c 0) 0 n) k
+      by : (t : Bool) → Chain (prevs t) (getD (lasts t) q 0) (reverse ds)
+      by true = rw (getD-set-other (l .last) p q past 0 n) (g .chain)
       by false =
-          chain-keep prev (beforeOf (reverse cs) c) (getD prev c 0) (getD last q 0) (reverse ds)
-          (away-of (beforeOf (reverse cs) c) (reverse ds) (λ z. f (beforeOf (reverse cs) c) (has-some (reverse cs) has) z)) k
+          chain-keep (l .prev) (beforeOf (reverse cs) c) past (getD (l .last) q 0) (reverse ds)
+          (away-of (beforeOf (reverse cs) c) (reverse ds) (λ a. apart (beforeOf (reverse cs) c) (before-in c (reverse cs) has) a)) (g .chain)

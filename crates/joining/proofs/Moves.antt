@@ -1,6 +1,6 @@
 -- What appending a child and taking one out do to a chain of links. The idea: a store outside a chain keeps it.
 use Prim.Native.Nat.{ℕ, _<_}
-use mathlib.Core.Path.{_≡_, refl, ap, sym, _∙_, subst}
+use mathlib.Core.Path.{_≡_, refl, sym, _∙_, subst}
 use mathlib.Core.Bool.{Bool, true, false, cond}
 use mathlib.Core.List.{List, [], _∷_}
 use mathlib.Core.Logic.{inl, inr, ⊎-elim}
@@ -10,9 +10,9 @@ use lib.Dec.{eqb}
 use lib.Seq.{getD-set-same, getD-set-other}
 use borrow.Author.Tests.{eq-eqb, ne-eqb, eqb-true, eqb-false}
 use Rattle.tree.specs.Tree.{without}
-use Rattle.search.specs.Columns.{chain, Chain, Has, Away, Distinct}
+use Rattle.search.specs.Columns.{Chain, Has, Away, Distinct}
 use Rattle.search.proofs.Distinct.{same-without}
-use Rattle.joining.specs.Links.{beforeOf, Detached}
+use Rattle.joining.specs.Links.{beforeOf}
 
 -- a store outside a chain keeps it
 pub chain-keep : (prev : List ℕ) (at v l : ℕ) (cs : List ℕ) → Away at cs → Chain prev l cs → Chain (set prev at v) l cs
@@ -46,7 +46,7 @@ unfolding Away Has
 away-has x c [] a h e = h
 away-has x c (y ∷ ys) a h e = ⊎-elim (λ (z : y ≡ c). a .0 (z ∙ sym e)) (λ (z : Has c ys). away-has x c ys (a .1) z e) h
 
-pub before-has : (e : ℕ) (r : List ℕ) (c : ℕ) → Has (beforeOf (e ∷ r) c) (e ∷ r)
+before-has : (e : ℕ) (r : List ℕ) (c : ℕ) → Has (beforeOf (e ∷ r) c) (e ∷ r)
 unfolding Has beforeOf
 before-has e [] c = inl refl
 before-has e (f ∷ r) c = by (eqb f c) (before-has f r c)
@@ -54,6 +54,11 @@ before-has e (f ∷ r) c = by (eqb f c) (before-has f r c)
     by : (t : Bool) → Has (beforeOf (f ∷ r) c) (f ∷ r) → Has (cond t e (beforeOf (f ∷ r) c)) (e ∷ f ∷ r)
     by true h = inl refl
     by false h = inr h
+
+pub before-in : (c : ℕ) (l : List ℕ) → Has c l → Has (beforeOf l c) l
+unfolding Has
+before-in c [] h = absurd h
+before-in c (x ∷ l) h = before-has x l c
 
 pub tail-has : (c x : ℕ) (xs : List ℕ) → (x ≡ c → ⊥) → Has c (x ∷ xs) → Has c xs
 unfolding Has
@@ -100,16 +105,3 @@ chain-middle prev l c (x ∷ y ∷ r) d h f v =
     rw (ne-eqb x c nx)
     (either-way prev l c x y r d v (eqb y c) refl
     (λ ny. chain-middle prev (getD prev l 0) c (y ∷ r) (d .1) (tail-has c x (y ∷ r) nx h) (λ e. ny (sym (v .1 .1 .0) ∙ e)) (v .1 .1)))
-
--- what the code does is what is to be done
-module _ (last prev : List ℕ) (p c i j : ℕ) (ei : i ≡ p) (ej : j ≡ c) where
-  pub leaves-first : getD last i 0 ≡ c → Detached last prev p c (set last i (getD prev j 0)) prev
-  leaves-first e =
-      let t : eqb (getD last p 0) c ≡ true = eq-eqb _ _ (subst (λ (m : ℕ). getD last m 0 ≡ c) ei e) in
-      record { lasts = rw (t, ei, ej); prevs = rw t }
-
-  pub leaves-other : (getD last i 0 ≡ c → ⊥) → (k d : ℕ) → k ≡ d → d ≡ beforeOf (chain prev (getD last i 0)) c → Detached last prev p c last (set prev k (getD prev j 0))
-  leaves-other f k d ek ed =
-      let t : eqb (getD last p 0) c ≡ false = ne-eqb _ _ (subst (λ (m : ℕ). getD last m 0 ≡ c → ⊥) ei f) in
-      let b : k ≡ beforeOf (chain prev (getD last p 0)) c = ek ∙ ed ∙ ap (λ (m : ℕ). beforeOf (chain prev (getD last m 0)) c) ei in
-      record { lasts = rw t; prevs = rw (t, b, ej) }

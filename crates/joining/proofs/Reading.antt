@@ -6,14 +6,16 @@ use native.Mathlib.Omega.{arith}
 use lib.ListN.{length, getD, length-append, List·getD-append}
 use lib.Seq.{ext-getD, getD-append-add}
 use Rattle.geometry.specs.Laws.{Within}
-use Rattle.tree.specs.Limits.{longestPath, mostNodes, reach}
+use Rattle.tree.specs.Limits.{longestPath, mostNodes, noNode, reach}
 use Rattle.tree.specs.Tree.{Node, Tree, nodeAt, blank}
 use Rattle.tree.specs.WellFormed.{WellFormed}
 use Rattle.tree.proofs.Order.{Tri, less, equal, more, tri}
+use Rattle.tree.proofs.Forming.{terminals-few}
 use Rattle.search.specs.Columns.{chain}
 use Rattle.search.specs.Find.{examined, Kept, Walkable}
 use Rattle.search.proofs.TreeWalk.{chains-are}
-use Rattle.joining.specs.Store.{Columns, rowAt, nodeFrom, nodeOf, nodesOf, upTo, Sized, Keeps}
+use Rattle.joining.specs.Links.{links, BackedBy, Backed}
+use Rattle.joining.specs.Store.{Columns, Store, columnsOf, rowAt, nodeFrom, nodeOf, nodesOf, upTo, Sized, SizedStore, Keeps, Backs}
 use Rattle.joining.specs.Join.{ReadsIn}
 use Rattle.joining.proofs.Agree.{walkable}
 
@@ -23,7 +25,7 @@ unfolding upTo
 length-upto f zero = refl
 length-upto f (suc n) = omega (arith, length-append (upTo f n) (f n ∷ []), length-upto f n)
 
-getD-upto : {A : Type 0} (f : ℕ → A) (d : A) (n i : ℕ) → i < n → getD (upTo f n) i d ≡ f i
+pub getD-upto : {A : Type 0} (f : ℕ → A) (d : A) (n i : ℕ) → i < n → getD (upTo f n) i d ≡ f i
 unfolding upTo
 getD-upto f d zero i h = absurd (omega arith)
 getD-upto f d (suc n) i h = by (tri i n) (getD-upto f d n i)
@@ -35,9 +37,12 @@ getD-upto f d (suc n) i h = by (tri i n) (getD-upto f d n i)
     by (more a) ih = absurd (omega arith)
 
 -- ---- a tree in columns of length m
+pub sized-columns : {m : ℕ} {s : Store} → SizedStore m s → Sized m (columnsOf s)
+sized-columns z = record { rows = z .rows; last = z .links .last; prev = z .links .prev; few = z .links .few }
+
 module _ (t : Tree) (f : WellFormed t) (few : length (t .nodes) ≤ mostNodes) where
   pub path-low : (i : ℕ) → nodeAt (t .nodes) i .path ≤ longestPath
-  path-low i = omega (arith, f .short i, f .terminals)
+  path-low i = omega (arith, f .short i, terminals-few f)
 
   pub walks : Walkable (t .nodes)
   walks = walkable (t .nodes) (f .linked) (f .near) path-low
@@ -59,6 +64,13 @@ module _ (t : Tree) (f : WellFormed t) (few : length (t .nodes) ≤ mostNodes) w
 
     pub children-are : (p : ℕ) → p < length (t .nodes) → chain (c .prev) (getD (c .last) p 0) ≡ examined (t .nodes) p
     children-are p h = chains-are (t .nodes) (c .rows .xs) (c .rows .ys) (c .rows .path) (c .last) (c .prev) kept walks p h
+
+    -- the links back agree with the chains where they do with the tree's children
+    pub backed-of : (next : List ℕ) → Backs (t .nodes) next → (p : ℕ) → p < length (t .nodes) → Backed (links (c .last) (c .prev) next) p
+    backed-of next b p h = subst (BackedBy next noNode) (sym (children-are p h)) (b p h)
+
+    pub backs-of : (next : List ℕ) → ((p : ℕ) → p < length (t .nodes) → Backed (links (c .last) (c .prev) next) p) → Backs (t .nodes) next
+    backs-of next b p h = subst (BackedBy next noNode) (children-are p h) (b p h)
 
     pub reads : (p : ℕ) → p < length (t .nodes) → ReadsIn (c .rows) p
     reads p h =

@@ -14,11 +14,11 @@ use Rattle.tree.specs.Limits.{noNode}
 use Rattle.tree.specs.Tree.{Node, at, nodeAt}
 use Rattle.tree.specs.Shape.{count}
 use Rattle.search.specs.Walk.{nodeIndex}
-use Rattle.search.specs.Columns.{Has, Chain, chain}
+use Rattle.search.specs.Columns.{Has, Distinct, Chain, chain}
 use Rattle.joining.specs.declared.Row.{Row}
-use Rattle.joining.specs.Links.{ChildrenAre, Attached, Detached, beforeOf, Appended}
-use Rattle.joining.specs.Store.{Rows, rowAt, setRow, setParent, SizedRows, nodeFrom, parentFrom}
-use Rattle.joining.proofs.Lists.{attach-own, attach-other}
+use Rattle.joining.specs.Links.{BackedBy, Links, links, SizedLinks, Attached, Detached, beforeOf, Appended}
+use Rattle.joining.specs.Store.{Rows, Store, columnsOf, Keeps, Backs, rowAt, setRow, setParent, SizedRows, nodeFrom, parentFrom}
+use Rattle.joining.proofs.Lists.{Held, Apart, attach-own, attach-other}
 use Rattle.joining.proofs.Agree.{has-count, count-reverse}
 
 -- ---- rows
@@ -74,54 +74,65 @@ pub node-lift : (M : List Node) (r : Rows) (j : ℕ) (x : Node) (n : Row) → no
 node-lift M r j x n e f h = e ∙ h ∙ (λ i. nodeFrom (sym f i) (sym e i .children))
 
 -- ---- links
-pub chain-lift : (M : List Node) (last prev : List ℕ) (j : ℕ) (x : Node) → nodeAt M j ≡ x → ChildrenAre last prev j (x .children) → ChildrenAre last prev j (nodeAt M j .children)
-chain-lift M last prev j x e h = subst (λ (n : Node). ChildrenAre last prev j (n .children)) (sym e) h
+pub held : {ns : List Node} {c : Store} → Keeps ns (columnsOf c) → Backs ns (c .links .next) → (j : ℕ) → j < length ns → Held (c .links) j (nodeAt ns j .children)
+held k b j l = record { chain = k .children j l; back = b j l }
+
+pub held-lift : (M : List Node) (l : Links) (j : ℕ) (x : Node) → nodeAt M j ≡ x → Held l j (x .children) → Held l j (nodeAt M j .children)
+held-lift M l j x e h = subst (λ (n : Node). Held l j (n .children)) (sym e) h
 
 pub absent : (x : ℕ) (l : List ℕ) → count x l ≡ 0 → Has x (reverse l) → ⊥
 absent x l e h = omega (arith, has-count x (reverse l) h, count-reverse x l)
 
-module _ (m : ℕ) (last prev : List ℕ) (p c : ℕ) (last′ prev′ : List ℕ) (v : Attached last prev p c last′ prev′) (sl : length last ≡ m) (sp : length prev ≡ m) where
-  pub attached-last : length last′ ≡ m
-  attached-last = ap length (v .lasts) ∙ length-set last p c ∙ sl
+module _ (m : ℕ) (l : Links) (p c : ℕ) (l′ : Links) (z : SizedLinks m l) where
+  pub attached-sized : Attached l p c l′ → SizedLinks m l′
+  attached-sized v =
+      record {
+        last = ap length (v .lasts) ∙ length-set (l .last) p c ∙ z .last;
+        prev = ap length (v .prevs) ∙ length-set (l .prev) c _ ∙ z .prev;
+        next = ap length (v .nexts) ∙ length-set (set (l .next) c noNode) _ c ∙ length-set (l .next) c noNode ∙ z .next;
+        few = z .few;
+      }
 
-  pub attached-prev : length prev′ ≡ m
-  attached-prev = ap length (v .prevs) ∙ length-set prev c (getD last p 0) ∙ sp
-
-module _ (m : ℕ) (last prev : List ℕ) (p c : ℕ) (last′ prev′ : List ℕ) (v : Appended last prev p c last′ prev′) (sl : length last ≡ m) (sp : length prev ≡ m) (hp : p < m) (hc : c < m) where
-  cut : length (set last c noNode) ≡ m
-  cut = length-set last c noNode ∙ sl
-
-  pub appended-last : length last′ ≡ m
-  appended-last = attached-last m (set last c noNode) prev p c last′ prev′ v cut sp
-
-  pub appended-prev : length prev′ ≡ m
-  appended-prev = attached-prev m (set last c noNode) prev p c last′ prev′ v cut sp
-
-  still : (q : ℕ) (cs : List ℕ) → q ≢ c → ChildrenAre last prev q cs → ChildrenAre (set last c noNode) prev q cs
-  still q cs n h = rw (getD-set-other last c q noNode 0 n) h
-
-  pub appended-own : (cs : List ℕ) → p ≢ c → ChildrenAre last prev p cs → (Has c (reverse cs) → ⊥) → ChildrenAre last′ prev′ p (cs ++ (c ∷ []))
-  appended-own cs n h f = attach-own (set last c noNode) prev last′ prev′ p c (omega (arith, cut)) (omega (arith, sp)) v cs (still p cs n h) f
-
-  pub appended-other : (q : ℕ) (cs : List ℕ) → q ≢ p → q ≢ c → ChildrenAre last prev q cs → (Has c (reverse cs) → ⊥) → ChildrenAre last′ prev′ q cs
-  appended-other q cs d n h f = attach-other (set last c noNode) prev last′ prev′ p c (omega (arith, cut)) (omega (arith, sp)) v q cs d (still q cs n h) f
-
-  pub appended-self : c ≢ p → ChildrenAre last′ prev′ c []
-  unfolding Chain Has
-  appended-self d =
-      attach-other (set last c noNode) prev last′ prev′ p c (omega (arith, cut)) (omega (arith, sp)) v c [] d (getD-set-same last c noNode 0 (omega (arith, sl))) (λ z. z)
-
-module _ (m : ℕ) (last prev : List ℕ) (p c : ℕ) (last′ prev′ : List ℕ) (v : Detached last prev p c last′ prev′) (sl : length last ≡ m) (sp : length prev ≡ m) where
-  pub detached-last : length last′ ≡ m
-  detached-last = ap length (v .lasts) ∙ by (eqb (getD last p 0) c)
+  pub detached-sized : Detached l p c l′ → SizedLinks m l′
+  detached-sized v =
+      record {
+        last = ap length (v .lasts) ∙ last-by (eqb (getD (l .last) p 0) c);
+        prev = ap length (v .prevs) ∙ prev-by (eqb (getD (l .last) p 0) c);
+        next = ap length (v .nexts) ∙ length-set (l .next) _ _ ∙ z .next;
+        few = z .few;
+      }
     where
-      by : (t : Bool) → length (cond t (set last p (getD prev c 0)) last) ≡ m
-      by true = length-set last p _ ∙ sl
-      by false = sl
+      last-by : (t : Bool) → length (cond t (set (l .last) p (getD (l .prev) c 0)) (l .last)) ≡ m
+      last-by true = length-set (l .last) p _ ∙ z .last
+      last-by false = z .last
 
-  pub detached-prev : length prev′ ≡ m
-  detached-prev = ap length (v .prevs) ∙ by (eqb (getD last p 0) c)
-    where
-      by : (t : Bool) → length (cond t prev (set prev (beforeOf (chain prev (getD last p 0)) c) (getD prev c 0))) ≡ m
-      by true = sp
-      by false = length-set prev _ _ ∙ sp
+      prev-by : (t : Bool) → length (cond t (l .prev) (set (l .prev) (beforeOf (chain (l .prev) (getD (l .last) p 0)) c) (getD (l .prev) c 0))) ≡ m
+      prev-by true = z .prev
+      prev-by false = length-set (l .prev) _ _ ∙ z .prev
+
+-- c, which has no children, goes last among p's
+module _ (m : ℕ) (l : Links) (p c : ℕ) (l′ : Links) (v : Appended l p c l′) (z : SizedLinks m l) where
+  abbrev cut : Links
+  cut = links (set (l .last) c noNode) (l .prev) (l .next)
+
+  cut-sized : SizedLinks m cut
+  cut-sized = record { last = length-set (l .last) c noNode ∙ z .last; prev = z .prev; next = z .next; few = z .few }
+
+  pub appended-sized : SizedLinks m l′
+  appended-sized = attached-sized m cut p c l′ cut-sized v
+
+  still : (q : ℕ) (cs : List ℕ) → q ≢ c → Held l q cs → Held cut q cs
+  still q cs n h = record { chain = rw (getD-set-other (l .last) c q noNode 0 n) (h .chain); back = h .back }
+
+  module _ (hp : p < m) (hc : c < m) (ne : p ≢ c) (cs : List ℕ) (h : Held l p cs) where
+    pub appended-own : Distinct (reverse cs) → (Has c (reverse cs) → ⊥) → Held l′ p (cs ++ (c ∷ []))
+    appended-own = attach-own m cut l′ cut-sized p c hp hc v cs (still p cs ne h)
+
+    pub appended-other : (q : ℕ) (ds : List ℕ) → q ≢ p → q ≢ c → Held l q ds → (Has c (reverse ds) → ⊥) → Apart cs ds → Held l′ q ds
+    appended-other q ds d n g f apart = attach-other m cut l′ cut-sized p c hp hc v cs (still p cs ne h) q ds d (still q ds n g) f apart
+
+    pub appended-self : Held l′ c []
+    unfolding Chain BackedBy Has
+    appended-self =
+        attach-other m cut l′ cut-sized p c hp hc v cs (still p cs ne h) c [] (λ e. ne (sym e))
+        (record { chain = getD-set-same (l .last) c noNode 0 (omega (arith, z .last)); back = tt }) (λ x. x) (λ x a b. b)

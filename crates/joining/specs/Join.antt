@@ -15,7 +15,7 @@ use Rattle.search.specs.Columns.{InReach}
 use Rattle.joining.specs.declared.Row.{Row}
 use Rattle.joining.specs.declared.SplitRows.{SplitRows}
 use Rattle.joining.specs.declared.Counts.{Counts}
-use Rattle.joining.specs.Store.{Rows, Columns, setRow, setParent, SizedRows, Sized}
+use Rattle.joining.specs.Store.{Rows, Store, setRow, setParent, SizedRows, SizedStore}
 use Rattle.joining.specs.Links.{Appended, Spliced, Spliceable}
 
 -- the row of a terminal at q below p
@@ -55,15 +55,15 @@ ReadsIn r p = Reads (r .xs) (r .ys) (r .path) p
 
 -- ---- one more node
 -- the columns have room for n, and p is in them
-pub record Attachable (c : Columns) (n p : ℕ) : Type 0 where
-  pub sized : Sized (length (c .rows .xs)) c
+pub record Attachable (c : Store) (n p : ℕ) : Type 0 where
+  pub sized : SizedStore (length (c .rows .xs)) c
   pub room : n < length (c .rows .xs)
   pub at : p < length (c .rows .xs)
 
 -- the node n has a row, no children, and stands last among its parent's
-pub record RowAttached (c : Columns) (n : ℕ) (row : Row) (c′ : Columns) : Type 0 where
+pub record RowAttached (c : Store) (n : ℕ) (row : Row) (c′ : Store) : Type 0 where
   pub rows : c′ .rows ≡ setRow (c .rows) n row
-  pub links : Appended (c .last) (c .prev) (row .parent .0) n (c′ .last) (c′ .prev)
+  pub links : Appended (c .links) (row .parent .0) n (c′ .links)
 
 -- ---- a branch is split
 -- the rows with both new ones, and the child below the Steiner node
@@ -81,11 +81,11 @@ pub record SplitReads (r : Rows) (k : Counts) (p c : ℕ) (q : Point) : Type 0 w
   pub to : ReadsIn r c
   pub within : Within reach q
 
-pub record Splittable (cs : Columns) (k : Counts) (p c : ℕ) (q : Point) : Type 0 where
+pub record Splittable (cs : Store) (k : Counts) (p c : ℕ) (q : Point) : Type 0 where
   pub rows : SplitReads (cs .rows) k p c q
-  pub links : Spliceable (cs .last) (cs .prev) p c (k .nodes) (k .nodes + 1)
+  pub links : Spliceable (cs .links) p c (k .nodes) (k .nodes + 1)
 
 -- a terminal at q has joined on the branch from p to c
-pub record BranchSplit (cs : Columns) (k : Counts) (p c : ℕ) (q : Point) (c′ : Columns) : Type 0 where
+pub record BranchSplit (cs : Store) (k : Counts) (p c : ℕ) (q : Point) (c′ : Store) : Type 0 where
   pub rows : c′ .rows ≡ withSplit (cs .rows) k p c q
-  pub links : Spliced (cs .last) (cs .prev) p c (k .nodes) (k .nodes + 1) (c′ .last) (c′ .prev)
+  pub links : Spliced (cs .links) p c (k .nodes) (k .nodes + 1) (c′ .links)

@@ -1,4 +1,4 @@
--- A tree kept in columns: rows of numbers, and two columns of links. noNode stands for no node.
+-- A tree kept in columns: rows of numbers, and columns of links. noNode stands for no node.
 use Prim.Native.Nat.{ℕ, zero, suc, _≤_, _<_}
 use mathlib.Core.Path.{_≡_}
 use mathlib.Core.Bool.{cond}
@@ -11,7 +11,7 @@ use Rattle.tree.specs.Tree.{zeroFigure, Node, Name, source, steiner, terminal, 
 use Rattle.search.specs.Walk.{nodeIndex}
 use Rattle.search.specs.Columns.{chain}
 use Rattle.joining.specs.declared.Row.{Row}
-use Rattle.joining.specs.Links.{ChildrenAre}
+use Rattle.joining.specs.Links.{ChildrenAre, Links, BackedBy, SizedLinks}
 
 pub record Rows : Type 0 where
   pub xs : List ℤ
@@ -21,6 +21,7 @@ pub record Rows : Type 0 where
   pub kind : List ℕ
   pub number : List ℕ
 
+-- what is read of a tree
 pub record Columns : Type 0 where
   pub rows : Rows
   pub last : List ℕ
@@ -31,6 +32,17 @@ rowsOf xs ys path parent kind number = record { xs = xs; ys = ys; path = path; p
 
 abbrev pub columns : Rows → List ℕ → List ℕ → Columns
 columns r last prev = record { rows = r; last = last; prev = prev }
+
+-- what is kept of a tree that grows: the link back too
+pub record Store : Type 0 where
+  pub rows : Rows
+  pub links : Links
+
+abbrev pub store : Rows → Links → Store
+store r l = record { rows = r; links = l }
+
+abbrev pub columnsOf : Store → Columns
+columnsOf s = columns (s .rows) (s .links .last) (s .links .prev)
 
 abbrev pub rowAt : Rows → ℕ → Row
 rowAt r i =
@@ -96,7 +108,15 @@ pub record Sized (m : ℕ) (c : Columns) : Type 0 where
   pub prev : length (c .prev) ≡ m
   pub few : m ≤ noNode
 
+pub record SizedStore (m : ℕ) (s : Store) : Type 0 where
+  pub rows : SizedRows m (s .rows)
+  pub links : SizedLinks m (s .links)
+
 -- the columns keep the nodes
 pub record Keeps (ns : List Node) (c : Columns) : Type 0 where
   pub rows : (i : ℕ) → i < length ns → nodeAt ns i ≡ nodeFrom (rowAt (c .rows) i) (nodeAt ns i .children)
   pub children : (p : ℕ) → p < length ns → ChildrenAre (c .last) (c .prev) p (nodeAt ns p .children)
+
+-- each child's link to the child after it
+abbrev pub Backs : List Node → List ℕ → Type 0
+Backs ns next = (p : ℕ) → p < length ns → BackedBy next noNode (reverse (nodeAt ns p .children))

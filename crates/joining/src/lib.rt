@@ -6,15 +6,15 @@ use tree::SteinerNumber;
 use tree::TerminalNumber;
 ghost use mathlib.Core.Path.{_≡_};
 ghost use Prim.Native.Nat.{ℕ, _+_, _<_, _≤_};
-ghost use lib.ListN.{length, getD};
+ghost use lib.ListN.{length, getD, set};
 ghost use Rattle.tree.specs.Limits.{noNode, reach};
 ghost use Rattle.tree.specs.WellFormed.{newNodes};
 ghost use Rattle.geometry.specs.Laws.{Within};
 ghost use Rattle.search.specs.Walk.{viewAt};
 ghost use Rattle.search.specs.Columns.{Has, Linked, chain};
 ghost use Rattle.search.specs.Find.{joinOf};
-ghost use Rattle.joining.specs.Store.{Rows, rowsOf, columns, setRow, SizedRows};
-ghost use Rattle.joining.specs.Links.{beforeOf, Attached, Detached, Appended, Adopted, Spliced, Spliceable};
+ghost use Rattle.joining.specs.Store.{rowsOf, store, setRow, SizedRows};
+ghost use Rattle.joining.specs.Links.{links, Backed, Attached, Detached, Appended, Adopted, Spliced, Spliceable};
 ghost use Rattle.joining.specs.Join.{terminalRow, pathBelow, splitRows, oneMore, twoMore, Reads, Attachable, RowAttached, withSplit, SplitReads, Splittable, BranchSplit};
 ghost use Rattle.joining.specs.Standing.{Standing, At, Joined};
 
@@ -166,91 +166,99 @@ fn store_split(
 
 // ---- links
 
+// Stores v at an index; one past the end, as NO_NODE is, is passed over.
+fn store_link(xs: &mut [u16], at: u16, v: u16)
+    ensures { λ r. ⌜ now (xs .exit) ≡ set (now (xs .entry)) at v ⌝ }
+{
+    let i = search::wide(at);
+    if i < xs.len() {
+        xs[i] = v;
+    }
+}
+
 // c goes last among p's children.
-pub fn attach_last(last: &mut [u16], prev: &mut [u16], p: NodeIndex, c: NodeIndex)
-    requires { ⌜ (p .0 < length (now last)) × (c .0 < length (now prev)) ⌝ }
-    ensures { λ r. ⌜ Attached (now (last .entry)) (now (prev .entry)) (p .0) (c .0) (now (last .exit)) (now (prev .exit)) ⌝ }
+pub fn attach_last(last: &mut [u16], prev: &mut [u16], next: &mut [u16], p: NodeIndex, c: NodeIndex)
+    requires { ⌜ (p .0 < length (now last)) × ((c .0 < length (now prev)) × (c .0 < length (now next))) ⌝ }
+    ensures { λ r. ⌜ Attached (links (now (last .entry)) (now (prev .entry)) (now (next .entry))) (p .0) (c .0) (links (now (last .exit)) (now (prev .exit)) (now (next .exit))) ⌝ }
 {
     let i = search::wide(p.0);
     let j = search::wide(c.0);
-    prev[j] = last[i];
+    let before = last[i];
     last[i] = c.0;
-}
-
-// The child that stands before c in a chain of links.
-fn child_before(prev: &[u16], first: u16, c: NodeIndex) -> NodeIndex
-    requires { ⌜ length (now prev) ≤ noNode ⌝ }
-    requires { ⌜ Linked (now prev) first ⌝ }
-    requires { ⌜ Has (c .0) (chain (now prev) first) ⌝ }
-    requires { ⌜ (first ≡ c .0 → ⊥) ⌝ }
-    ensures { λ r. ⌜ (r .0 ≡ beforeOf (chain (now (prev .entry)) first) (c .0)) × (r .0 < length (now (prev .entry))) ⌝ }
-{
-    let k = search::wide(first);
-    let mut d = first;
-    let mut e = prev[k];
-    while e != c.0 {
-        let i = search::wide(e);
-        d = e;
-        e = prev[i];
-    }
-    NodeIndex(d)
+    prev[j] = before;
+    next[j] = tree::NO_NODE;
+    store_link(next, before, c.0);
 }
 
 // c leaves p's children.
-pub fn detach(last: &mut [u16], prev: &mut [u16], p: NodeIndex, c: NodeIndex)
+pub fn detach(last: &mut [u16], prev: &mut [u16], next: &mut [u16], p: NodeIndex, c: NodeIndex)
     requires { ⌜ length (now prev) ≤ noNode ⌝ }
-    requires { ⌜ (p .0 < length (now last)) × (c .0 < length (now prev)) ⌝ }
+    requires { ⌜ (p .0 < length (now last)) × ((c .0 < length (now prev)) × (c .0 < length (now next))) ⌝ }
     requires { ⌜ Linked (now prev) (getD (now last) (p .0) 0) ⌝ }
     requires { ⌜ Has (c .0) (chain (now prev) (getD (now last) (p .0) 0)) ⌝ }
-    ensures { λ r. ⌜ Detached (now (last .entry)) (now (prev .entry)) (p .0) (c .0) (now (last .exit)) (now (prev .exit)) ⌝ }
+    requires { ⌜ Backed (links (now last) (now prev) (now next)) (p .0) ⌝ }
+    ensures { λ r. ⌜ Detached (links (now (last .entry)) (now (prev .entry)) (now (next .entry))) (p .0) (c .0) (links (now (last .exit)) (now (prev .exit)) (now (next .exit))) ⌝ }
 {
     let i = search::wide(p.0);
     let j = search::wide(c.0);
-    let first = last[i];
-    let next = prev[j];
-    if first == c.0 {
-        last[i] = next;
+    let before = prev[j];
+    let after = next[j];
+    store_link(next, before, after);
+    if after == tree::NO_NODE {
+        last[i] = before;
         return;
     }
-    let d = child_before(prev, first, c);
-    let k = search::wide(d.0);
-    prev[k] = next;
+    store_link(prev, after, before);
 }
 
 // c, which has no children yet, goes last among p's.
-pub fn append_child(last: &mut [u16], prev: &mut [u16], p: NodeIndex, c: NodeIndex)
-    requires { ⌜ ((p .0 < length (now last)) × (c .0 < length (now last))) × (c .0 < length (now prev)) ⌝ }
-    ensures { λ r. ⌜ Appended (now (last .entry)) (now (prev .entry)) (p .0) (c .0) (now (last .exit)) (now (prev .exit)) ⌝ }
+pub fn append_child(
+    last: &mut [u16],
+    prev: &mut [u16],
+    next: &mut [u16],
+    p: NodeIndex,
+    c: NodeIndex,
+)
+    requires { ⌜ ((p .0 < length (now last)) × (c .0 < length (now last))) × ((c .0 < length (now prev)) × (c .0 < length (now next))) ⌝ }
+    ensures { λ r. ⌜ Appended (links (now (last .entry)) (now (prev .entry)) (now (next .entry))) (p .0) (c .0) (links (now (last .exit)) (now (prev .exit)) (now (next .exit))) ⌝ }
 {
     let i = search::wide(c.0);
     last[i] = tree::NO_NODE;
-    attach_last(last, prev, p, c);
+    attach_last(last, prev, next, p, c);
 }
 
 // s takes c and then i, which has no children yet.
-pub fn adopt(last: &mut [u16], prev: &mut [u16], s: NodeIndex, c: NodeIndex, i: NodeIndex)
-    requires { ⌜ ((s .0 < length (now last)) × (i .0 < length (now last))) × ((c .0 < length (now prev)) × (i .0 < length (now prev))) ⌝ }
-    ensures { λ r. ⌜ Adopted (now (last .entry)) (now (prev .entry)) (s .0) (c .0) (i .0) (now (last .exit)) (now (prev .exit)) ⌝ }
+pub fn adopt(
+    last: &mut [u16],
+    prev: &mut [u16],
+    next: &mut [u16],
+    s: NodeIndex,
+    c: NodeIndex,
+    i: NodeIndex,
+)
+    requires { ⌜ ((s .0 < length (now last)) × (i .0 < length (now last))) × (((c .0 < length (now prev)) × (i .0 < length (now prev))) × ((c .0 < length (now next)) × (i .0 < length (now next)))) ⌝ }
+    ensures { λ r. ⌜ Adopted (links (now (last .entry)) (now (prev .entry)) (now (next .entry))) (s .0) (c .0) (i .0) (links (now (last .exit)) (now (prev .exit)) (now (next .exit))) ⌝ }
 {
-    attach_last(last, prev, s, c);
-    append_child(last, prev, s, i);
+    attach_last(last, prev, next, s, c);
+    append_child(last, prev, next, s, i);
 }
 
 // s goes between p and its child c, and i below s.
 pub fn splice(
     last: &mut [u16],
     prev: &mut [u16],
+    next: &mut [u16],
     p: NodeIndex,
     c: NodeIndex,
     i: NodeIndex,
     s: NodeIndex,
 )
-    requires { ⌜ Spliceable (now last) (now prev) (p .0) (c .0) (i .0) (s .0) ⌝ }
-    ensures { λ r. ⌜ Spliced (now (last .entry)) (now (prev .entry)) (p .0) (c .0) (i .0) (s .0) (now (last .exit)) (now (prev .exit)) ⌝ }
+    requires { ⌜ Spliceable (links (now last) (now prev) (now next)) (p .0) (c .0) (i .0) (s .0) ⌝ }
+    ensures { λ r. ⌜ Spliced (links (now (last .entry)) (now (prev .entry)) (now (next .entry))) (p .0) (c .0) (i .0) (s .0) (links (now (last .exit)) (now (prev .exit)) (now (next .exit))) ⌝ }
 {
-    detach(last, prev, p, c);
-    append_child(last, prev, p, s);
-    adopt(last, prev, s, c, i);
+    detach(last, prev, next, p, c);
+    append_child(last, prev, next, p, s);
+    adopt(last, prev, next, s, c, i);
 }
 
 // ---- joining
@@ -265,15 +273,16 @@ pub fn attach(
     number: &mut [u16],
     last: &mut [u16],
     prev: &mut [u16],
+    next: &mut [u16],
     n: NodeIndex,
     row: Row,
 )
-    requires { ⌜ Attachable (columns (rowsOf (now xs) (now ys) (now path) (now parent) (now kind) (now number)) (now last) (now prev)) (n .0) (row .parent .0) ⌝ }
-    ensures { λ r. ⌜ RowAttached (columns (rowsOf (now (xs .entry)) (now (ys .entry)) (now (path .entry)) (now (parent .entry)) (now (kind .entry)) (now (number .entry))) (now (last .entry)) (now (prev .entry))) (n .0) row (columns (rowsOf (now (xs .exit)) (now (ys .exit)) (now (path .exit)) (now (parent .exit)) (now (kind .exit)) (now (number .exit))) (now (last .exit)) (now (prev .exit))) ⌝ }
+    requires { ⌜ Attachable (store (rowsOf (now xs) (now ys) (now path) (now parent) (now kind) (now number)) (links (now last) (now prev) (now next))) (n .0) (row .parent .0) ⌝ }
+    ensures { λ r. ⌜ RowAttached (store (rowsOf (now (xs .entry)) (now (ys .entry)) (now (path .entry)) (now (parent .entry)) (now (kind .entry)) (now (number .entry))) (links (now (last .entry)) (now (prev .entry)) (now (next .entry)))) (n .0) row (store (rowsOf (now (xs .exit)) (now (ys .exit)) (now (path .exit)) (now (parent .exit)) (now (kind .exit)) (now (number .exit))) (links (now (last .exit)) (now (prev .exit)) (now (next .exit)))) ⌝ }
 {
     let p = row.parent;
     store_row(xs, ys, path, parent, kind, number, n, row);
-    append_child(last, prev, p, n);
+    append_child(last, prev, next, p, n);
 }
 
 // A terminal at q joins on the branch from p to c.
@@ -286,18 +295,19 @@ pub fn split_branch(
     number: &mut [u16],
     last: &mut [u16],
     prev: &mut [u16],
+    next: &mut [u16],
     k: Counts,
     p: NodeIndex,
     c: NodeIndex,
     q: Point,
 )
-    requires { ⌜ Splittable (columns (rowsOf (now xs) (now ys) (now path) (now parent) (now kind) (now number)) (now last) (now prev)) k (p .0) (c .0) q ⌝ }
-    ensures { λ r. ⌜ BranchSplit (columns (rowsOf (now (xs .entry)) (now (ys .entry)) (now (path .entry)) (now (parent .entry)) (now (kind .entry)) (now (number .entry))) (now (last .entry)) (now (prev .entry))) k (p .0) (c .0) q (columns (rowsOf (now (xs .exit)) (now (ys .exit)) (now (path .exit)) (now (parent .exit)) (now (kind .exit)) (now (number .exit))) (now (last .exit)) (now (prev .exit))) ⌝ }
+    requires { ⌜ Splittable (store (rowsOf (now xs) (now ys) (now path) (now parent) (now kind) (now number)) (links (now last) (now prev) (now next))) k (p .0) (c .0) q ⌝ }
+    ensures { λ r. ⌜ BranchSplit (store (rowsOf (now (xs .entry)) (now (ys .entry)) (now (path .entry)) (now (parent .entry)) (now (kind .entry)) (now (number .entry))) (links (now (last .entry)) (now (prev .entry)) (now (next .entry)))) k (p .0) (c .0) q (store (rowsOf (now (xs .exit)) (now (ys .exit)) (now (path .exit)) (now (parent .exit)) (now (kind .exit)) (now (number .exit))) (links (now (last .exit)) (now (prev .exit)) (now (next .exit)))) ⌝ }
 {
     let n = NodeIndex(k.nodes);
     let s = NodeIndex(k.nodes + 1);
     store_split(xs, ys, path, parent, kind, number, k, p, c, q);
-    splice(last, prev, p, c, n, s);
+    splice(last, prev, next, p, c, n, s);
 }
 
 // The counts with one more terminal.
@@ -338,23 +348,38 @@ pub fn join(
     number: &mut [u16],
     last: &mut [u16],
     prev: &mut [u16],
+    next: &mut [u16],
     k: Counts,
     q: Point,
     j: Join,
 ) -> Counts
-    requires { ⌜ Standing (At j) (newNodes (joinOf j)) q k (columns (rowsOf (now xs) (now ys) (now path) (now parent) (now kind) (now number)) (now last) (now prev)) ⌝ }
-    ensures { λ r. ⌜ Joined j q k (columns (rowsOf (now (xs .entry)) (now (ys .entry)) (now (path .entry)) (now (parent .entry)) (now (kind .entry)) (now (number .entry))) (now (last .entry)) (now (prev .entry))) r (columns (rowsOf (now (xs .exit)) (now (ys .exit)) (now (path .exit)) (now (parent .exit)) (now (kind .exit)) (now (number .exit))) (now (last .exit)) (now (prev .exit))) ⌝ }
+    requires { ⌜ Standing (At j) (newNodes (joinOf j)) q k (store (rowsOf (now xs) (now ys) (now path) (now parent) (now kind) (now number)) (links (now last) (now prev) (now next))) ⌝ }
+    ensures { λ r. ⌜ Joined j q k (store (rowsOf (now (xs .entry)) (now (ys .entry)) (now (path .entry)) (now (parent .entry)) (now (kind .entry)) (now (number .entry))) (links (now (last .entry)) (now (prev .entry)) (now (next .entry)))) r (store (rowsOf (now (xs .exit)) (now (ys .exit)) (now (path .exit)) (now (parent .exit)) (now (kind .exit)) (now (number .exit))) (links (now (last .exit)) (now (prev .exit)) (now (next .exit)))) ⌝ }
 {
     let n = NodeIndex(k.nodes);
     let te = k.terminal;
     match j {
         Join::Onto(p) => {
             let row = terminal_row(xs, ys, path, p, q, te);
-            attach(xs, ys, path, parent, kind, number, last, prev, n, row);
+            attach(xs, ys, path, parent, kind, number, last, prev, next, n, row);
             one_more(k)
         }
         Join::Split(p, c) => {
-            split_branch(xs, ys, path, parent, kind, number, last, prev, k, p, c, q);
+            split_branch(
+                xs,
+                ys,
+                path,
+                parent,
+                kind,
+                number,
+                last,
+                prev,
+                next,
+                k,
+                p,
+                c,
+                q,
+            );
             two_more(k)
         }
     }

@@ -19,6 +19,7 @@ use Rattle.joining.specs.Store.{Columns, rowAt, nodeFrom, parentFrom, nodesOf}
 use Rattle.joining.proofs.Agree.{child-of}
 use Rattle.joining.proofs.Reading.{children-are, nodes-are}
 use Rattle.tree.proofs.Linking.{child-in, parent-in}
+use Rattle.tree.proofs.Forming.{terminals-few}
 use Rattle.measures.specs.Standing.{Stands}
 
 pub record Read (ns : List Node) (c : Columns) (n : ℕ) : Type 0 where
@@ -56,7 +57,7 @@ module _ {c : Columns} {n : ℕ} (s : Stands c n) where
       by : (x : Name) → Given (s .tree .nextSteiner) (s .tree .nextTerminal) x → numberOf x ≤ mostNodes
       by source g = omega arith
       by (steiner k) g = omega (arith, s .numbers, g .1)
-      by (terminal k) g = omega (arith, s .few, s .size, s .formed .terminals, g .1)
+      by (terminal k) g = omega (arith, s .few, s .size, terminals-few (s .formed), g .1)
 
   read-tree : Read (s .tree .nodes) c n
   read-tree =

@@ -1,5 +1,7 @@
-// Nodes by value from columns.
+// A tree in columns by value; its nodes by value from columns, and back; the node that has a name.
 use geometry::Point;
+use joining::Counts;
+use joining::Row;
 use tree::NodeIndex;
 use tree::NodeName;
 use tree::Parent;
@@ -9,11 +11,33 @@ use tree::TerminalNumber;
 ghost use mathlib.Core.Path.{_≡_};
 ghost use mathlib.Core.List.{List};
 ghost use Prim.Native.Nat.{ℕ, _<_, _≤_};
-ghost use lib.ListN.{length, getD, replicate};
-ghost use Rattle.tree.specs.Limits.{mostNodes};
+ghost use lib.ListN.{length, replicate};
+ghost use Rattle.tree.specs.Limits.{mostNodes, noNode};
+ghost use Rattle.tree.specs.Measures.{kindOf, numberOf, sameName, lookup};
+ghost use Rattle.tree.specs.Tree.{at};
 ghost use Rattle.tree.specs.Memory.{nameIn, parentIn, nodeIn};
-ghost use Rattle.joining.specs.Store.{rowsOf, rowAt, SizedRows, nameFrom, parentFrom, nodeFrom};
-ghost use Rattle.nodes.specs.Nodes.{blankNode, Packs};
+ghost use Rattle.joining.specs.Store.{Columns, rowsOf, rowAt, SizedRows, nameFrom, parentFrom, nodeFrom, nodesOf};
+ghost use Rattle.nodes.specs.Nodes.{blankNode, Packs, Plain, Unpackable, lookupOf};
+ghost use Rattle.nodes.specs.Table.{tableTree, Tabled};
+
+// A tree in columns, with the figures that come with it.
+pub struct Table {
+    pub xs: [i32; tree::MOST_NODES],
+    pub ys: [i32; tree::MOST_NODES],
+    pub path: [u32; tree::MOST_NODES],
+    pub parent: [u16; tree::MOST_NODES],
+    pub kind: [u8; tree::MOST_NODES],
+    pub number: [u16; tree::MOST_NODES],
+    pub last: [u16; tree::MOST_NODES],
+    pub prev: [u16; tree::MOST_NODES],
+    pub next: [u16; tree::MOST_NODES],
+    pub counts: Counts,
+    pub limit: u32,
+    pub allowed: i32,
+    pub farthest: u32,
+}
+
+// ---- a node from its row
 
 fn name_of(kind: u8, number: u16) -> NodeName
     ensures { λ r. ⌜ nameIn r ≡ nameFrom kind number ⌝ }
@@ -104,4 +128,124 @@ pub fn pack<'a>(
         i = i + 1;
     }
     nodes
+}
+
+// ---- rows from nodes
+
+pub fn kind_of_name(name: NodeName) -> u8
+    ensures { λ r. ⌜ r ≡ kindOf (nameIn name) ⌝ }
+{
+    match name {
+        NodeName::Source => tree::SOURCE,
+        NodeName::Steiner(k) => tree::STEINER,
+        NodeName::Terminal(k) => tree::TERMINAL,
+    }
+}
+
+// 0 for the source.
+pub fn number_of_name(name: NodeName) -> u16
+    ensures { λ r. ⌜ r ≡ numberOf (nameIn name) ⌝ }
+{
+    match name {
+        NodeName::Source => 0,
+        NodeName::Steiner(k) => k.0,
+        NodeName::Terminal(k) => k.0,
+    }
+}
+
+fn index_of_parent(p: Parent) -> u16
+    requires { ⌜ (parentIn p ≡ at noNode → ⊥) ⌝ }
+    ensures { λ r. ⌜ parentIn p ≡ parentFrom r ⌝ }
+{
+    match p {
+        Parent::None => tree::NO_NODE,
+        Parent::At(i) => i.0,
+    }
+}
+
+fn row_of(node: RoutingNode) -> Row
+    requires { ⌜ Plain node ⌝ }
+    ensures { λ r. ⌜ ((cs : List ℕ) → nodeIn node cs ≡ nodeFrom r cs) ⌝ }
+{
+    let name = node.name;
+    let parent = node.parent;
+    let pt = node.pt;
+    let p = NodeIndex(index_of_parent(parent));
+    Row {
+        point: pt,
+        path: node.path_length,
+        parent: p,
+        kind: kind_of_name(name),
+        number: number_of_name(name),
+    }
+}
+
+// The rows of the first n nodes go into the columns.
+pub fn unpack(
+    xs: &mut [i32],
+    ys: &mut [i32],
+    path: &mut [u32],
+    parent: &mut [u16],
+    kind: &mut [u8],
+    number: &mut [u16],
+    nodes: [RoutingNode; tree::MOST_NODES],
+    n: u16,
+)
+    requires { ⌜ SizedRows mostNodes (rowsOf (now xs) (now ys) (now path) (now parent) (now kind) (now number)) ⌝ }
+    requires { ⌜ Unpackable nodes n ⌝ }
+    ensures { λ r. ⌜ Packs (rowsOf (now (xs .exit)) (now (ys .exit)) (now (path .exit)) (now (parent .exit)) (now (kind .exit)) (now (number .exit))) n nodes ⌝ }
+{
+    let mut i: u16 = 0;
+    while i < n {
+        let k = search::wide(i);
+        let node = nodes[k];
+        let row = row_of(node);
+        joining::store_row(xs, ys, path, parent, kind, number, NodeIndex(i), row);
+        i = i + 1;
+    }
+}
+
+// ---- the node that has a name
+
+// What a name leads to.
+pub enum Lookup {
+    Missing,
+    Found(NodeIndex),
+}
+
+fn same_name(a: NodeName, b: NodeName) -> bool
+    ensures { λ r. ⌜ r ≡ sameName (nameIn a) (nameIn b) ⌝ }
+{
+    if kind_of_name(a) == kind_of_name(b) {
+        return number_of_name(a) == number_of_name(b);
+    }
+    false
+}
+
+// Of the first n nodes, by the columns that have their names.
+pub fn find_named<'a>(kind: &'a [u8], number: &'a [u16], n: u16, name: NodeName) -> Lookup
+    requires { ⌜ (n ≤ length (now kind)) × (n ≤ length (now number)) ⌝ }
+    ensures { λ r. ⌜ ((c : Columns) → c .rows .kind ≡ now (kind .entry) → c .rows .number ≡ now (number .entry) → lookupOf r ≡ lookup (nodesOf c n) (nameIn name) n) ⌝ }
+{
+    let mut i: u16 = 0;
+    while i < n {
+        let k = search::wide(i);
+        let own = name_of(kind[k], number[k]);
+        if same_name(own, name) {
+            return Lookup::Found(NodeIndex(i));
+        }
+        i = i + 1;
+    }
+    Lookup::Missing
+}
+
+// Of a tree in columns.
+pub fn find_node(t: Table, name: NodeName) -> Lookup
+    requires { ⌜ Tabled t ⌝ }
+    ensures { λ r. ⌜ lookupOf r ≡ lookup (tableTree t .nodes) (nameIn name) (t .counts .nodes) ⌝ }
+{
+    let kind = t.kind;
+    let number = t.number;
+    let k = t.counts;
+    find_named(&kind, &number, k.nodes, name)
 }

@@ -19,13 +19,16 @@ use Rattle.search.specs.Branch.{keepoutsOf}
 use Rattle.sorting.specs.Points.{pt, seg, Even, Sorted}
 use Rattle.sorting.proofs.Moves.{seg-append}
 use Rattle.joining.specs.declared.Counts.{Counts}
-use Rattle.joining.specs.Store.{Columns, Sized, Keeps, upTo}
+use Rattle.joining.specs.Links.{LinkedBack}
+use Rattle.joining.specs.Store.{Store, SizedStore, Keeps, upTo}
+use Rattle.joining.proofs.Reading.{sized-columns, backed-of}
+use Rattle.nodes.specs.declared.Table.{Table}
+use Rattle.nodes.specs.Table.{tableColumns, tableLinks, tableStore, tableTree}
 use Rattle.inserting.specs.Insert.{stepOf}
 use Rattle.inserting.specs.Route.{treeOf, Routable, Routed}
-use Rattle.route.specs.declared.Table.{Table}
 use Rattle.route.specs.declared.Choice.{Choice}
 use Rattle.route.specs.Routing.{wayOf}
-use Rattle.route.specs.Plan.{points, choiceOf, tableColumns, tableTree, Plannable, Planned}
+use Rattle.route.specs.Plan.{points, choiceOf, Plannable, Planned}
 
 -- ---- the first n of a column, from the front and from the back
 upto-seg : (f : ℕ → Point) (n : ℕ) → upTo f n ≡ seg f 0 n
@@ -75,8 +78,8 @@ module _ (s : Point) (w : ℕ) where
 -- ---- the call
 module _ (ks px py : List ℤ) (s : Point) (mode : Mode) (v : Plannable px py s) (px′ py′ : List ℤ) (sorted : Sorted px py s px′ py′)
     (w : ℕ) (is-w : w ≡ farthest s (points px py)) (c : Choice) (is-c : c ≡ choiceOf mode s w) where
-  pub routable : (columns : Columns) → Sized (length (columns .rows .xs)) columns → 241 ≤ length (columns .rows .xs) → Routable px′ py′ (c .query) columns
-  routable columns z h =
+  pub routable : (kept : Store) → SizedStore (length (kept .rows .xs)) kept → 241 ≤ length (kept .rows .xs) → Routable px′ py′ (c .query) kept
+  routable kept z h =
       record {
         sized = z;
         room = omega (arith, v .few, sorted .size);
@@ -86,7 +89,7 @@ module _ (ks px py : List ℤ) (s : Point) (mode : Mode) (v : Plannable px py s)
         near = sorted .even .near;
       }
 
-  module _ (t : Table) (of : Routed (c .way) ks px′ py′ (c .query) (t .counts) (tableColumns t)) (size : length (t .xs) ≡ mostNodes)
+  module _ (t : Table) (of : Routed (c .way) ks px′ py′ (c .query) (t .counts) (tableStore t)) (size : length (t .xs) ≡ mostNodes)
       (is-limit : t .limit ≡ c .query .limit) (is-allowed : t .allowed ≡ c .query .allowed) (is-farthest : t .farthest ≡ w) where
     table-is : tableTree t ≡ treeOf (c .way) ks px′ py′ (c .query) w (length px′)
     table-is =
@@ -109,6 +112,18 @@ module _ (ks px py : List ℤ) (s : Point) (mode : Mode) (v : Plannable px py s)
     low-w : w ≤ across
     low-w = omega (arith, farthest-bound v)
 
+    sized : SizedStore mostNodes (tableStore t)
+    sized = subst (λ (m : ℕ). SizedStore m (tableStore t)) size (of .sized)
+
+    back : LinkedBack mostNodes (t .counts .nodes) (tableLinks t)
+    back =
+        let h = of .holds w in
+        let few : length (treeOf (c .way) ks px′ py′ (c .query) w (length px′) .nodes) ≤ mostNodes = omega (arith, h .counted .size, h .counted .steiners, h .stores .terminal, of .next, sorted .size, v .few) in
+        record {
+          size = sized .links .next;
+          agree = λ p l. backed-of (treeOf (c .way) ks px′ py′ (c .query) w (length px′)) (h .formed) few mostNodes (tableColumns t) (sized-columns sized) (h .stores .keeps) few (t .next) (h .stores .backs) p (omega (arith, h .stores .size));
+        }
+
     pub planned : Planned ks px py s mode t
     planned =
         let h = of .holds w in
@@ -117,7 +132,8 @@ module _ (ks px py : List ℤ) (s : Point) (mode : Mode) (v : Plannable px py s)
           formed = subst WellFormed (sym table-is) (h .formed);
           counted = subst Counted (sym table-is) (h .counted);
           keeps = subst (λ (x : Tree). Keeps (x .nodes) (tableColumns t)) (sym table-is) (h .stores .keeps);
-          sized = subst (λ (m : ℕ). Sized m (tableColumns t)) size (of .sized);
+          sized = sized-columns sized;
+          back = back;
           next = of .next ∙ ap (λ (n : ℕ). n + 1) (sorted .size);
           limit-small = omega (arith, is-limit, ap (λ (x : Choice). x .query .limit) is-c, limit-small s w mode low-w);
           farthest-small = omega (arith, is-farthest, low-w);

@@ -8,7 +8,6 @@ use Rattle.geometry.specs.declared.Point.{Point}
 use Rattle.geometry.specs.Laws.{Within}
 use Rattle.allowance.specs.Allowance.{allowedOf}
 use Rattle.tree.specs.Limits.{reach, across, mostTerminals, mostNodes, noLimit}
-use Rattle.tree.specs.Tree.{Tree}
 use Rattle.tree.specs.Route.{farthest, route}
 use Rattle.tree.specs.WellFormed.{WellFormed, Counted}
 use Rattle.job.specs.declared.Mode.{Mode}
@@ -16,8 +15,10 @@ use Rattle.job.specs.declared.Mode.the-variants.{Simple, Steiners, Constraints}
 use Rattle.search.specs.Branch.{keepoutsOf}
 use Rattle.sorting.specs.Points.{pt, seg, Even}
 use Rattle.inserting.specs.declared.Way.the-variants as W
-use Rattle.joining.specs.Store.{Columns, rowsOf, columns, nodesOf, Sized, Keeps}
-use Rattle.route.specs.declared.Table.{Table}
+use Rattle.joining.specs.Links.{LinkedBack}
+use Rattle.joining.specs.Store.{Sized, Keeps}
+use Rattle.nodes.specs.declared.Table.{Table}
+use Rattle.nodes.specs.Table.{tableColumns, tableLinks, tableTree}
 use Rattle.route.specs.declared.Choice.{Choice}
 use Rattle.route.specs.Routing.{wayOf}
 
@@ -31,20 +32,6 @@ choiceOf Simple s w = record { way = W.Simple; query = record { point = s; limit
 choiceOf Steiners s w = record { way = W.Search; query = record { point = s; limit = noLimit; allowed = pos noLimit } }
 choiceOf (Constraints m) s w = record { way = W.Search; query = record { point = s; limit = w; allowed = allowedOf w m } }
 
-abbrev pub tableColumns : Table → Columns
-tableColumns t = columns (rowsOf (t .xs) (t .ys) (t .path) (t .parent) (t .kind) (t .number)) (t .last) (t .prev)
-
-abbrev pub tableTree : Table → Tree
-tableTree t =
-    record {
-      nodes = nodesOf (tableColumns t) (t .counts .nodes);
-      allowed = t .allowed;
-      farthest = t .farthest;
-      limit = t .limit;
-      nextSteiner = t .counts .steiner .0;
-      nextTerminal = t .counts .terminal .0;
-    }
-
 pub record Plannable (px py : List ℤ) (s : Point) : Type 0 where
   pub even : Even px py
   pub few : length px ≤ mostTerminals
@@ -57,6 +44,7 @@ pub record Planned (ks px py : List ℤ) (s : Point) (mode : Mode) (t : Table) :
   pub counted : Counted (tableTree t)
   pub keeps : Keeps (tableTree t .nodes) (tableColumns t)
   pub sized : Sized mostNodes (tableColumns t)
+  pub back : LinkedBack mostNodes (t .counts .nodes) (tableLinks t)
   pub next : t .counts .terminal .0 ≡ length px + 1
   pub limit-small : t .limit ≤ noLimit
   pub farthest-small : t .farthest ≤ across

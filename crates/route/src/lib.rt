@@ -2,7 +2,7 @@
 use geometry::Point;
 use inserting::Way;
 use job::Mode;
-use joining::Counts;
+use nodes::Table;
 use search::Query;
 ghost use mathlib.Core.Path.{_≡_};
 ghost use Prim.Native.Nat.{max};
@@ -11,22 +11,6 @@ ghost use Rattle.tree.specs.Limits.{reach};
 ghost use Rattle.tree.specs.Route.{farthest};
 ghost use Rattle.sorting.specs.Points.{Even};
 ghost use Rattle.route.specs.Plan.{points, choiceOf, Plannable, Planned};
-
-// A tree in columns, with the figures that come with it.
-pub struct Table {
-    pub xs: [i32; tree::MOST_NODES],
-    pub ys: [i32; tree::MOST_NODES],
-    pub path: [u32; tree::MOST_NODES],
-    pub parent: [u16; tree::MOST_NODES],
-    pub kind: [u8; tree::MOST_NODES],
-    pub number: [u16; tree::MOST_NODES],
-    pub last: [u16; tree::MOST_NODES],
-    pub prev: [u16; tree::MOST_NODES],
-    pub counts: Counts,
-    pub limit: u32,
-    pub allowed: i32,
-    pub farthest: u32,
-}
 
 // How a mode routes: the way to join, the tree limit and the allowance.
 pub struct Choice {
@@ -104,6 +88,7 @@ pub fn plan(px: &mut [i32], py: &mut [i32], ks: &[i32], s: Point, mode: Mode) ->
     let mut number = [0u16; tree::MOST_NODES];
     let mut last = [0u16; tree::MOST_NODES];
     let mut prev = [0u16; tree::MOST_NODES];
+    let mut next = [0u16; tree::MOST_NODES];
     let k = inserting::route_sorted(
         &mut xs,
         &mut ys,
@@ -113,6 +98,7 @@ pub fn plan(px: &mut [i32], py: &mut [i32], ks: &[i32], s: Point, mode: Mode) ->
         &mut number,
         &mut last,
         &mut prev,
+        &mut next,
         px,
         py,
         ks,
@@ -128,6 +114,7 @@ pub fn plan(px: &mut [i32], py: &mut [i32], ks: &[i32], s: Point, mode: Mode) ->
         number: number,
         last: last,
         prev: prev,
+        next: next,
         counts: k,
         limit: query.limit,
         allowed: query.allowed,

@@ -41,9 +41,8 @@ unfolding T.stops stopsBy
 stops-is q P C n k = refl
 
 blocked-is : (ks : List Rectangle) (q P C n : Point) → T.blocked ks q P C n ≡ blockedBy ks n (box n q) (box n P) (box n C)
-unfolding T.blocked T.anyOf blockedBy
-blocked-is [] q P C n = refl
-blocked-is (k ∷ ks) q P C n = λ i. stops-is q P C n k i || blocked-is ks q P C n i
+unfolding T.blocked
+blocked-is ks q P C n = λ i. T.anyOf (λ (k : Rectangle). stops-is q P C n k i) ks
 
 -- ---- the take rule
 takes-is : (limit : ℕ) (w : Bool) (b : T.Branch) (v : Bool) (best : ℕ) (j : T.Join) (f : Best) → f .within ≡ v → f .best ≡ best

@@ -59,7 +59,7 @@ distinct-append (x ∷ a) b d e f =
     (away-of x (a ++ b) (λ h. has-split x a b (λ z. away-not x a (d .0) z) (λ z. f x (inl refl) z) h), distinct-append a b (d .1) e (λ y z w. f y (inr z) w))
 
 -- ---- the count
-has-without : {X : Type 0} (c x : ℕ) (xs : List ℕ) → (Has x xs → (x ≡ c → ⊥) → X) → Has x (without c xs) → X
+pub has-without : {X : Type 0} (c x : ℕ) (xs : List ℕ) → (Has x xs → (x ≡ c → ⊥) → X) → Has x (without c xs) → X
 unfolding Has without
 has-without c x [] f h = absurd h
 has-without {X = X} c x (y ∷ ys) f h = by (eqb y c) refl h (has-without c x ys (λ z n. f (inr z) n))
@@ -68,7 +68,7 @@ has-without {X = X} c x (y ∷ ys) f h = by (eqb y c) refl h (has-without c x ys
     by true e k r = r k
     by false e k r = ⊎-elim (λ (z : y ≡ x). f (inl z) (λ w. eqb-false y c e (z ∙ w))) r k
 
-distinct-without : (c : ℕ) (xs : List ℕ) → Distinct xs → Distinct (without c xs)
+pub distinct-without : (c : ℕ) (xs : List ℕ) → Distinct xs → Distinct (without c xs)
 unfolding Distinct without
 distinct-without c [] d = tt
 distinct-without c (y ∷ ys) d = by (eqb y c) (distinct-without c ys (d .1))

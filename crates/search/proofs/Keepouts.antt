@@ -1,5 +1,5 @@
 -- Keepouts: the four tests of one in turn, and the scan of a flat list, four numbers each.
-use Prim.Native.Nat.{ℕ, _+_, _≤_, _<_}
+use Prim.Native.Nat.{ℕ, _+_, _*_, _≤_, _<_}
 use mathlib.Core.Path.{_≡_, refl, ap, sym, _∙_}
 use mathlib.Core.Bool.{Bool, true, false, _||_}
 use mathlib.Core.List.{List, [], _∷_}
@@ -11,7 +11,8 @@ use lib.Seq.{drop-cons}
 use Rattle.geometry.specs.declared.Point.{Point}
 use Rattle.geometry.specs.declared.Rectangle.{Rectangle}
 use Rattle.geometry.specs.Geometry.{contains, blocks}
-use Rattle.search.specs.Branch.{keepoutsOf, stopsBy, blockedBy, keepoutAt}
+use Rattle.tree.specs.Search.{anyOf}
+use Rattle.search.specs.Branch.{keepoutsOf, stopsBy, keepoutAt}
 
 -- ---- one keepout: the four tests in turn
 module _ (k : Rectangle) (n : Point) (a b c : Rectangle) where
@@ -56,24 +57,34 @@ keepouts-short (a ∷ b ∷ []) h = refl
 keepouts-short (a ∷ b ∷ c ∷ []) h = refl
 keepouts-short (a ∷ b ∷ c ∷ d ∷ r) h = absurd (omega arith)
 
-module _ (l : List ℤ) (n : Point) (a b c : Rectangle) (i : ℕ) where
+-- a test of any keepout, by a scan from the first on
+module _ (f : Rectangle → Bool) (l : List ℤ) (i : ℕ) where
   -- the keepouts from i on decide
   abbrev pub Scan : Type 0
-  Scan = blockedBy (keepoutsOf (drop i l)) n a b c ≡ blockedBy (keepoutsOf l) n a b c
+  Scan = anyOf f (keepoutsOf (drop i l)) ≡ anyOf f (keepoutsOf l)
 
-  pub scan-ends : Scan → length l < i + 4 → false ≡ blockedBy (keepoutsOf l) n a b c
-  unfolding blockedBy
-  scan-ends v h = sym (ap (λ (r : List Rectangle). blockedBy r n a b c) (keepouts-short (drop i l) (omega (arith, length-drop i l)))) ∙ v
+  pub scan-ends : Scan → length l < i + 4 → false ≡ anyOf f (keepoutsOf l)
+  unfolding anyOf
+  scan-ends v h = sym (ap (anyOf f) (keepouts-short (drop i l) (omega (arith, length-drop i l)))) ∙ v
 
-  module _ (v : Scan) (more : i + 4 ≤ length l) (k : Rectangle) (r : Bool) (ek : k ≡ keepoutAt l i) (er : r ≡ stopsBy k n a b c) where
-    turn : blockedBy (keepoutsOf l) n a b c ≡ (r || blockedBy (keepoutsOf (drop (i + 4) l)) n a b c)
-    unfolding blockedBy
+  module _ (v : Scan) (more : i + 4 ≤ length l) (k : Rectangle) (r : Bool) (ek : k ≡ keepoutAt l i) (er : r ≡ f k) where
+    turn : anyOf f (keepoutsOf l) ≡ (r || anyOf f (keepoutsOf (drop (i + 4) l)))
+    unfolding anyOf
     turn =
-        sym v ∙ ap (λ (x : List Rectangle). blockedBy x n a b c) (keepouts-next l i more)
-        ∙ ap (λ (x : Bool). x || blockedBy (keepoutsOf (drop (i + 4) l)) n a b c) (sym (er ∙ ap (λ (x : Rectangle). stopsBy x n a b c) ek))
+        sym v ∙ ap (anyOf f) (keepouts-next l i more)
+        ∙ ap (λ (x : Bool). x || anyOf f (keepoutsOf (drop (i + 4) l))) (sym (er ∙ ap f ek))
 
-    pub scan-hit : r ≡ true → true ≡ blockedBy (keepoutsOf l) n a b c
-    scan-hit e = sym (turn ∙ ap (λ (x : Bool). x || blockedBy (keepoutsOf (drop (i + 4) l)) n a b c) e)
+    pub scan-hit : r ≡ true → true ≡ anyOf f (keepoutsOf l)
+    scan-hit e = sym (turn ∙ ap (λ (x : Bool). x || anyOf f (keepoutsOf (drop (i + 4) l))) e)
 
-    pub scan-next : r ≡ false → blockedBy (keepoutsOf (drop (i + 4) l)) n a b c ≡ blockedBy (keepoutsOf l) n a b c
-    scan-next e = sym (turn ∙ ap (λ (x : Bool). x || blockedBy (keepoutsOf (drop (i + 4) l)) n a b c) e)
+    pub scan-next : r ≡ false → anyOf f (keepoutsOf (drop (i + 4) l)) ≡ anyOf f (keepoutsOf l)
+    scan-next e = sym (turn ∙ ap (λ (x : Bool). x || anyOf f (keepoutsOf (drop (i + 4) l))) e)
+
+-- how many there are: a whole number of four
+pub keepouts-length : (l : List ℤ) → (4 * length (keepoutsOf l) ≤ length l) × (length l < 4 * length (keepoutsOf l) + 4)
+unfolding keepoutsOf
+keepouts-length [] = (omega arith, omega arith)
+keepouts-length (a ∷ []) = (omega arith, omega arith)
+keepouts-length (a ∷ b ∷ []) = (omega arith, omega arith)
+keepouts-length (a ∷ b ∷ c ∷ []) = (omega arith, omega arith)
+keepouts-length (a ∷ b ∷ c ∷ d ∷ r) = let h = keepouts-length r in (omega (arith, h .0), omega (arith, h .1))

@@ -11,7 +11,7 @@ use Rattle.geometry.specs.declared.Rectangle.{Rectangle}
 use Rattle.geometry.specs.Geometry.{dist, box, contains, blocks, same}
 use Rattle.geometry.specs.Laws.{Within}
 use Rattle.tree.specs.Limits.{longestPath, reach}
-use Rattle.tree.specs.Search.{nearestOn}
+use Rattle.tree.specs.Search.{nearestOn, anyOf}
 use Rattle.search.specs.declared.Join.{Join}
 use Rattle.search.specs.declared.Join.the-variants.{Onto, Split}
 use Rattle.search.specs.declared.Best.{Best}
@@ -24,10 +24,8 @@ use Rattle.search.specs.declared.Examined.{Examined}
 unfoldable pub stopsBy : Rectangle → Point → Rectangle → Rectangle → Rectangle → Bool
 stopsBy k n a b c = contains k n || (blocks k a || (blocks k b || blocks k c))
 
-unfoldable pub blockedBy : List Rectangle → Point → Rectangle → Rectangle → Rectangle → Bool
-unfolding stopsBy
-blockedBy [] n a b c = false
-blockedBy (k ∷ ks) n a b c = stopsBy k n a b c || blockedBy ks n a b c
+abbrev pub blockedBy : List Rectangle → Point → Rectangle → Rectangle → Rectangle → Bool
+blockedBy ks n a b c = anyOf (λ (k : Rectangle). stopsBy k n a b c) ks
 
 -- the rectangles of a flat list: lower x, upper x, lower y, upper y
 unfoldable pub keepoutsOf : List ℤ → List Rectangle
@@ -62,7 +60,6 @@ judge a P C n b =
 
 -- the branch from P to C
 unfoldable pub isBlocked : List Rectangle → Query → NodeView → NodeView → Bool
-unfolding blockedBy
 isBlocked ks a P C =
     let n = nearestOn (P .point) (C .point) (a .point) in
     blockedBy ks n (box n (a .point)) (box n (P .point)) (box n (C .point))

@@ -176,7 +176,7 @@ fn stops(k: Rectangle, n: Point, a: Rectangle, b: Rectangle, c: Rectangle) -> bo
 }
 
 // The keepout whose four numbers start at i.
-fn keepout_at(ks: &[i32], i: usize) -> Rectangle
+pub fn keepout_at(ks: &[i32], i: usize) -> Rectangle
     requires { ⌜ i + 4 ≤ length (now ks) ⌝ }
     ensures { λ r. ⌜ r ≡ keepoutAt (now (ks .entry)) i ⌝ }
 {

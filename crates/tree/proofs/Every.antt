@@ -1,25 +1,19 @@
--- What holds of the name, point and path of every node holds after a joining, where it holds of those of the new nodes: a joining changes no old node's.
+-- What holds of the name, point and path of every node holds after a branch is split, where it holds of those of the new nodes: a joining changes no old
+-- node's. (For one more node it is `every-adds` in Adding.)
 use mathlib.Core.Path.{_≡_, sym, ap, subst, _∙_}
 use mathlib.Core.List.{List}
-use Prim.Native.Nat.{ℕ, suc, _+_, _<_}
+use Prim.Native.Nat.{ℕ, suc, _+_}
 use native.Mathlib.Decide.{ℕ-discrete}
 use lib.ListN.{length}
 use Rattle.geometry.specs.declared.Point.{Point}
 use Rattle.geometry.specs.Geometry.{dist}
 use Rattle.tree.specs.Tree.{Node, terminal, steiner, at, nodeAt}
 use Rattle.tree.specs.Search.{split, branch}
-use Rattle.tree.specs.Route.{attach, joined}
+use Rattle.tree.specs.Route.{joined}
 use Rattle.tree.specs.Shape.{Linked}
-use Rattle.tree.proofs.Measuring.{Core, core, core-new, core-old, core-tip, core-knot, core-rest}
+use Rattle.tree.proofs.Measuring.{Core, core, core-tip, core-knot, core-rest}
 
 module _ (P : Core → Type 0) (ns : List Node) (all : (i : ℕ) → P (core (nodeAt ns i))) where
-  pub every-attach : (p : ℕ) (n : Node) → p < length ns → P (core n) → (i : ℕ) → P (core (nodeAt (attach ns p n) i))
-  every-attach p n h new i = by (ℕ-discrete i (length ns))
-    where
-      by : Dec (i ≡ length ns) → P (core (nodeAt (attach ns p n) i))
-      by (yes e) = subst P (sym (ap (λ (k : ℕ). core (nodeAt (attach ns p n) k)) e ∙ core-new ns p n h)) new
-      by (no e) = subst P (sym (core-old ns p n h i e)) (all i)
-
   module _ (st te : ℕ) (q : Point) (p c : ℕ) (g : Linked ns) (link : nodeAt ns c .parent ≡ at p) where
     abbrev N : Point
     N = branch (nodeAt ns p) (nodeAt ns c) q .near

@@ -1,9 +1,11 @@
 pub mod Order
 pub mod Alike
 pub mod Nodes
+pub mod Ranking
 pub mod Linking
 pub mod Measuring
 pub mod Naming
+pub mod Adding
 pub mod Searching
 pub mod Routing
 pub mod Fuel
@@ -11,3 +13,8 @@ pub mod Every
 pub mod Spread
 pub mod Fitting
 pub mod Forming
+pub mod Tempting
+pub mod Splicing
+pub mod Closing
+pub mod Removing
+pub mod Optimizing

@@ -1,21 +1,21 @@
 -- Joining keeps the links.
-use mathlib.Core.Path.{_≡_, refl, sym, ap, subst, _∙_}
+use mathlib.Core.Path.{_≡_, refl, sym, ap, _∙_}
 use mathlib.Core.Logic.{_≢_, _⊎_, inl, inr, ⊎-elim}
 use mathlib.Core.Bool.{Bool, true, false, cond}
 use mathlib.Core.List.{List, [], _∷_, _++_}
-use Prim.Native.Nat.{ℕ, zero, suc, _+_, _≤_, _<_}
+use Prim.Native.Nat.{ℕ, suc, _+_, _*_, _≤_, _<_}
 use native.Mathlib.Decide.{decLt}
 use native.Mathlib.Omega.{arith}
 use lib.ListN.{length}
-use lib.Dec.{eqb, leb}
-use borrow.Author.Tests.{eq-eqb, ne-eqb, eqb-true, eqb-false, le-leb, lt-leb}
+use lib.Dec.{eqb}
+use borrow.Author.Tests.{eq-eqb, ne-eqb, eqb-true}
 use Rattle.geometry.specs.declared.Point.{Point}
-use Rattle.geometry.specs.Geometry.{dist}
 use Rattle.tree.specs.Tree.{one}
-use Rattle.tree.specs.Tree.{Node, Parent, none, at, nodeAt, without, replaceLast}
-use Rattle.tree.specs.Search.{Join, onto, split}
+use Rattle.tree.specs.Tree.{Node, none, at, nodeAt, without, replaceLast}
+use Rattle.tree.specs.Search.{split}
 use Rattle.tree.specs.Route.{attach, joined}
 use Rattle.tree.specs.Shape.{count, isAt, Linked}
+use Rattle.tree.proofs.Ranking.{standing, standing-small, standing-falls}
 use Rattle.tree.proofs.Nodes.{past, AtNode, new, joint, old, at-node, length-attach, AtSplit, tip, knot, start, end, rest, at-split, length-split}
 
 -- ---- counts
@@ -53,9 +53,50 @@ count-gone c (x ∷ xs) = by (eqb x c) refl (count-gone c xs)
     by true e ih = ih
     by false e ih = omega (arith, ap one e)
 
+pub length-without : (c : ℕ) (xs : List ℕ) → length (without c xs) + count c xs ≡ length xs
+unfolding without count
+length-without c [] = refl
+length-without c (x ∷ xs) = by (eqb x c) (length-without c xs)
+  where
+    by : (t : Bool) → length (without c xs) + count c xs ≡ length xs → length (cond t (without c xs) (x ∷ without c xs)) + (one t + count c xs) ≡ suc (length xs)
+    by true ih = omega arith
+    by false ih = omega arith
+
 -- ---- what links say
+at-inj : {a b : ℕ} → at a ≡ at b → a ≡ b
+at-inj e = cc
+
 pub none-at : {X : Type 0} {p : ℕ} → none ≡ at p → X
 none-at e = absurd (let z : _≡_ {A = ℕ} 0 1 = cc in omega arith)
+
+module _ (ns : List Node) (links : (p c : ℕ) → count c (nodeAt ns p .children) ≡ isAt p (nodeAt ns c .parent)) where
+  count-child : (c p : ℕ) → nodeAt ns c .parent ≡ at p → count c (nodeAt ns p .children) ≡ 1
+  count-child c p e = links p c ∙ ap (isAt p) e ∙ one-eq p p refl
+
+  -- a node with a child is no blank
+  pub inside : (c p : ℕ) → nodeAt ns c .parent ≡ at p → p < length ns
+  unfolding count
+  inside c p e = by (decLt p (length ns))
+    where
+      by : Dec (p < length ns) → p < length ns
+      by (yes h) = h
+      by (no h) = absurd (omega (arith, count-child c p e, ap (λ (n : Node). count c (n .children)) (past ns p (omega arith))))
+
+-- any numbers that fall from child to parent make a rank
+module _ (ns : List Node) (some : 0 < length ns) (top : nodeAt ns 0 .parent ≡ none) (others : (i : ℕ) → i < length ns → nodeAt ns i .parent ≡ none → i ≡ 0)
+    (links : (p c : ℕ) → count c (nodeAt ns p .children) ≡ isAt p (nodeAt ns c .parent)) (r : ℕ → ℕ)
+    (falls : (c p : ℕ) → nodeAt ns c .parent ≡ at p → r p < r c) where
+  pub linked-by : Linked ns
+  linked-by =
+      record {
+        some = some;
+        top = top;
+        others = others;
+        links = links;
+        rank = standing (length ns) r;
+        small = standing-small (length ns) r;
+        falls = λ c p e. standing-falls (length ns) r p c (inside ns links c p e) (falls c p e);
+      }
 
 module _ {ns : List Node} (g : Linked ns) where
   pub child-in : (c p : ℕ) → nodeAt ns c .parent ≡ at p → c < length ns
@@ -66,15 +107,10 @@ module _ {ns : List Node} (g : Linked ns) where
       by (no h) = none-at (sym (ap (λ (n : Node). n .parent) (past ns c (omega arith))) ∙ e)
 
   pub counted : (c p : ℕ) → nodeAt ns c .parent ≡ at p → count c (nodeAt ns p .children) ≡ 1
-  counted c p e = g .links p c ∙ ap (isAt p) e ∙ one-eq p p refl
+  counted = count-child ns (g .links)
 
   pub parent-in : (c p : ℕ) → nodeAt ns c .parent ≡ at p → p < length ns
-  unfolding count
-  parent-in c p e = by (decLt p (length ns))
-    where
-      by : Dec (p < length ns) → p < length ns
-      by (yes h) = h
-      by (no h) = absurd (omega (arith, counted c p e, ap (λ (n : Node). count c (n .children)) (past ns p (omega arith))))
+  parent-in = inside ns (g .links)
 
   pub not-own : (c p : ℕ) → nodeAt ns c .parent ≡ at p → c ≢ p
   not-own c p e f = omega (arith, g .falls c p e, ap (g .rank) f)
@@ -142,65 +178,20 @@ module _ (ns : List Node) (p : ℕ) (n : Node) (h : p < length ns) (g : Linked n
   unfolding rank-attach
   rank-old j e = ap (λ (t : Bool). cond t (suc (g .rank p)) (g .rank j)) (ne-eqb j i e)
 
-  at-inj : {a b : ℕ} → at a ≡ at b → a ≡ b
-  at-inj e = cc
+  falls-attach : (c x : ℕ) → nodeAt N c .parent ≡ at x → rank-attach x < rank-attach c
+  falls-attach c x e =
+      ⊎-elim
+      (λ r. let f : p ≡ x = at-inj (sym (r .1) ∙ e) in omega (arith, rank-new c (r .0), rank-old x (omega arith), ap (g .rank) f))
+      (λ r. let f : nodeAt ns c .parent ≡ at x = sym (r .1) ∙ e in omega (arith, rank-old c (r .0), rank-old x (omega (arith, parent-in g c x f)), g .falls c x f))
+      (parent-attach c)
 
   pub linked-attach : Linked N
   linked-attach =
-      record {
-        some = omega (arith, length-attach ns p n h);
-        top = ⊎-elim (λ r. absurd (omega (arith, g .some))) (λ r. r .1 ∙ g .top) (parent-attach 0);
-        others = λ j l e. ⊎-elim (λ r. none-at (sym e ∙ r .1)) (λ r. g .others j (omega (arith, length-attach ns p n h)) (sym (r .1) ∙ e)) (parent-attach j);
-        links = links-attach;
-        rank = rank-attach;
-        small = λ j l. ⊎-elim (λ r. omega (arith, rank-new j (r .0), g .small p h, length-attach ns p n h))
-            (λ r. omega (arith, rank-old j (r .0), length-attach ns p n h, g .small j (omega (arith, length-attach ns p n h)))) (parent-attach j);
-        falls = λ c x e. ⊎-elim
-            (λ r. let f : p ≡ x = at-inj (sym (r .1) ∙ e) in omega (arith, rank-new c (r .0), rank-old x (omega arith), ap (g .rank) f))
-            (λ r. let f : nodeAt ns c .parent ≡ at x = sym (r .1) ∙ e in omega (arith, rank-old c (r .0), rank-old x (omega (arith, parent-in g c x f)), g .falls c x f))
-            (parent-attach c);
-      }
+      linked-by N (omega (arith, length-attach ns p n h)) (⊎-elim (λ r. absurd (omega (arith, g .some))) (λ r. r .1 ∙ g .top) (parent-attach 0))
+      (λ j l e. ⊎-elim (λ r. none-at (sym e ∙ r .1)) (λ r. g .others j (omega (arith, length-attach ns p n h)) (sym (r .1) ∙ e)) (parent-attach j))
+      links-attach rank-attach falls-attach
 
 -- ---- on the branch from p to its child c
--- ranks above r make room for one more
-pub lift : ℕ → ℕ → ℕ
-lift r k = cond (leb k r) k (suc k)
-
-pub lift-low : (r k : ℕ) → k ≤ r → lift r k ≡ k
-unfolding lift
-lift-low r k h = ap (λ (t : Bool). cond t k (suc k)) (le-leb k r h)
-
-pub lift-high : (r k : ℕ) → r < k → lift r k ≡ suc k
-unfolding lift
-lift-high r k h = ap (λ (t : Bool). cond t k (suc k)) (lt-leb k r h)
-
-data Lifted (r k : ℕ) : Type 0 where
-  low : k ≤ r → lift r k ≡ k → Lifted r k
-  high : r < k → lift r k ≡ suc k → Lifted r k
-
-lifted : (r k : ℕ) → Lifted r k
-lifted r k = by (decLt r k)
-  where
-    by : Dec (r < k) → Lifted r k
-    by (yes h) = high h (lift-high r k h)
-    by (no h) = low (omega arith) (lift-low r k (omega arith))
-
-pub lift-less : (r k : ℕ) → lift r k < suc (suc k)
-lift-less r k = by (lifted r k)
-  where
-    by : Lifted r k → lift r k < suc (suc k)
-    by (low h e) = omega arith
-    by (high h e) = omega arith
-
-pub lift-mono : (r k l : ℕ) → k < l → lift r k < lift r l
-lift-mono r k l h = by (lifted r k) (lifted r l)
-  where
-    by : Lifted r k → Lifted r l → lift r k < lift r l
-    by (low a e) (low b f) = omega arith
-    by (low a e) (high b f) = omega arith
-    by (high a e) (low b f) = omega arith
-    by (high a e) (high b f) = omega arith
-
 module _ (ns : List Node) (st te : ℕ) (q : Point) (p c : ℕ) (g : Linked ns) (link : nodeAt ns c .parent ≡ at p) where
   abbrev M : List Node
   M = joined ns st te q (split p c)
@@ -274,49 +265,36 @@ module _ (ns : List Node) (st te : ℕ) (q : Point) (p c : ℕ) (g : Linked ns) 
       by (of-old e e′ k) (over-s f r) = omega (arith, ap (count b) k, ap (isAt a) r, g .links a b, ap (isAt a) (out-parent g b (omega arith)), one-ne a p e)
       by (of-old e e′ k) (over-old f f′ f″ r) = omega (arith, ap (count b) k, ap (isAt a) r, g .links a b)
 
+  -- old ranks doubled, so that there is room above p
   rank-split : ℕ → ℕ
-  rank-split j = cond (eqb j t) (suc (suc (g .rank p))) (cond (eqb j s) (suc (g .rank p)) (lift (g .rank p) (g .rank j)))
+  rank-split j = cond (eqb j t) (2 * g .rank p + 2) (cond (eqb j s) (2 * g .rank p + 1) (2 * g .rank j))
 
-  rank-t : (j : ℕ) → j ≡ t → rank-split j ≡ suc (suc (g .rank p))
+  rank-t : (j : ℕ) → j ≡ t → rank-split j ≡ 2 * g .rank p + 2
   unfolding rank-split
-  rank-t j e = ap (λ (b : Bool). cond b (suc (suc (g .rank p))) (cond (eqb j s) (suc (g .rank p)) (lift (g .rank p) (g .rank j)))) (eq-eqb j t e)
+  rank-t j e = ap (λ (b : Bool). cond b (2 * g .rank p + 2) (cond (eqb j s) (2 * g .rank p + 1) (2 * g .rank j))) (eq-eqb j t e)
 
-  not-t : (j : ℕ) → j ≢ t → rank-split j ≡ cond (eqb j s) (suc (g .rank p)) (lift (g .rank p) (g .rank j))
+  not-t : (j : ℕ) → j ≢ t → rank-split j ≡ cond (eqb j s) (2 * g .rank p + 1) (2 * g .rank j)
   unfolding rank-split
-  not-t j e = ap (λ (b : Bool). cond b (suc (suc (g .rank p))) (cond (eqb j s) (suc (g .rank p)) (lift (g .rank p) (g .rank j)))) (ne-eqb j t e)
+  not-t j e = ap (λ (b : Bool). cond b (2 * g .rank p + 2) (cond (eqb j s) (2 * g .rank p + 1) (2 * g .rank j))) (ne-eqb j t e)
 
-  rank-s : (j : ℕ) → j ≡ s → rank-split j ≡ suc (g .rank p)
-  rank-s j e = not-t j (omega arith) ∙ ap (λ (b : Bool). cond b (suc (g .rank p)) (lift (g .rank p) (g .rank j))) (eq-eqb j s e)
+  rank-s : (j : ℕ) → j ≡ s → rank-split j ≡ 2 * g .rank p + 1
+  rank-s j e = not-t j (omega arith) ∙ ap (λ (b : Bool). cond b (2 * g .rank p + 1) (2 * g .rank j)) (eq-eqb j s e)
 
-  rank-else : (j : ℕ) → j ≢ t → j ≢ s → rank-split j ≡ lift (g .rank p) (g .rank j)
-  rank-else j d e = not-t j d ∙ ap (λ (b : Bool). cond b (suc (g .rank p)) (lift (g .rank p) (g .rank j))) (ne-eqb j s e)
+  rank-else : (j : ℕ) → j ≢ t → j ≢ s → rank-split j ≡ 2 * g .rank j
+  rank-else j d e = not-t j d ∙ ap (λ (b : Bool). cond b (2 * g .rank p + 1) (2 * g .rank j)) (ne-eqb j s e)
 
   falls-split : (b x : ℕ) → nodeAt M b .parent ≡ at x → rank-split x < rank-split b
   falls-split b x e = by (parent-split b)
     where
-      is : {y : ℕ} → nodeAt M b .parent ≡ at y → x ≡ y
-      is r = at-inj′ (sym e ∙ r)
-        where
-          at-inj′ : {m n : ℕ} → at m ≡ at n → m ≡ n
-          at-inj′ d = cc
-
       by : Over b → rank-split x < rank-split b
-      by (over-c f r) =
-          omega (
-            arith,
-            rank-s x (is r),
-            rank-else b (omega (arith, hc)) (omega (arith, hc)),
-            ap (g .rank) f,
-            g .falls c p link,
-            lift-high (g .rank p) (g .rank b) (omega (arith, ap (g .rank) f, g .falls c p link)),
-          )
-      by (over-t f r) = omega (arith, rank-s x (is r), rank-t b f)
+      by (over-c f r) = omega (arith, rank-s x (at-inj (sym e ∙ r)), rank-else b (omega (arith, hc)) (omega (arith, hc)), ap (g .rank) f, g .falls c p link)
+      by (over-t f r) = omega (arith, rank-s x (at-inj (sym e ∙ r)), rank-t b f)
       by (over-s f r) =
-          let d : x ≡ p = is r in
-          omega (arith, rank-s b f, rank-else x (omega (arith, hp)) (omega (arith, hp)), ap (g .rank) d, lift-low (g .rank p) (g .rank x) (omega (arith, ap (g .rank) d)))
+          let d : x ≡ p = at-inj (sym e ∙ r) in
+          omega (arith, rank-s b f, rank-else x (omega (arith, hp)) (omega (arith, hp)), ap (g .rank) d)
       by (over-old f f′ f″ r) =
           let d : nodeAt ns b .parent ≡ at x = sym r ∙ e in
-          omega (arith, rank-else b f′ f″, rank-else x (omega (arith, parent-in g b x d)) (omega (arith, parent-in g b x d)), lift-mono (g .rank p) (g .rank x) (g .rank b) (g .falls b x d))
+          omega (arith, rank-else b f′ f″, rank-else x (omega (arith, parent-in g b x d)) (omega (arith, parent-in g b x d)), g .falls b x d)
 
   abbrev long : length M ≡ suc (suc (length ns))
   long = length-split ns st te q p c hp hc (not-own g c p link)
@@ -330,18 +308,6 @@ module _ (ns : List Node) (st te : ℕ) (q : Point) (p c : ℕ) (g : Linked ns) 
       by (over-s f r) = none-at (sym e ∙ r)
       by (over-old f f′ f″ r) = g .others j (omega (arith, long)) (sym r ∙ e)
 
-  small-split : (j : ℕ) → j < length M → rank-split j < length M
-  small-split j l = by (parent-split j)
-    where
-      old-one : j < length ns → rank-split j < length M
-      old-one h = omega (arith, long, rank-else j (omega arith) (omega arith), lift-less (g .rank p) (g .rank j), g .small j h)
-
-      by : Over j → rank-split j < length M
-      by (over-c f r) = old-one (omega (arith, hc))
-      by (over-t f r) = omega (arith, long, rank-t j f, g .small p hp)
-      by (over-s f r) = omega (arith, long, rank-s j f, g .small p hp)
-      by (over-old f f′ f″ r) = old-one (omega (arith, long))
-
   top-split : nodeAt M 0 .parent ≡ none
   top-split = by (parent-split 0)
     where
@@ -352,13 +318,4 @@ module _ (ns : List Node) (st te : ℕ) (q : Point) (p c : ℕ) (g : Linked ns) 
       by (over-old f f′ f″ r) = r ∙ g .top
 
   pub linked-split : Linked M
-  linked-split =
-      record {
-        some = omega (arith, long);
-        top = top-split;
-        others = others-split;
-        links = links-split;
-        rank = rank-split;
-        small = small-split;
-        falls = falls-split;
-      }
+  linked-split = linked-by M (omega (arith, long)) top-split others-split links-split rank-split falls-split

@@ -1,20 +1,18 @@
 -- Joining gives the next numbers: names stay distinct, and the terminals by number are the points joined, in order.
-use mathlib.Core.Path.{_≡_, refl, sym, ap, ap₂, subst, _∙_}
-use mathlib.Core.Logic.{_≢_}
-use mathlib.Core.List.{List, [], _∷_, _++_, append-nil}
-use Prim.Native.Nat.{ℕ, zero, suc, _+_, _≤_, _<_}
+use mathlib.Core.Path.{_≡_, refl, sym, ap, subst, _∙_}
+use mathlib.Core.List.{List, [], _∷_, _++_}
+use Prim.Native.Nat.{ℕ, zero, suc, _<_}
 use native.Mathlib.Decide.{decLt, ℕ-discrete}
 use native.Mathlib.Omega.{arith}
 use lib.ListN.{length, getD, set}
 use Rattle.geometry.specs.declared.Point.{Point}
-use Rattle.geometry.specs.Geometry.{dist}
-use Rattle.tree.specs.Tree.{Node, Name, source, terminal, steiner, Parent, at, nodeAt, change, blank, adopt, replaceLast, withParent, terminalOf, terminals}
+use Rattle.tree.specs.Tree.{Node, Name, source, terminal, steiner, at, nodeAt, change, blank, replaceLast, terminalOf, terminals}
 use Rattle.tree.specs.Search.{Join, onto, split}
 use Rattle.tree.specs.Route.{attach, joined}
 use Rattle.tree.specs.Shape.{Linked, Named, Given, nameOf}
-use Rattle.tree.proofs.Nodes.{length-attach, length-split}
+use Rattle.tree.proofs.Nodes.{length-split}
 use Rattle.tree.proofs.Linking.{child-in, parent-in, not-own}
-use Rattle.tree.proofs.Measuring.{Core, core, core-new, core-old, core-tip, core-knot, core-rest}
+use Rattle.tree.proofs.Measuring.{Core, core, core-tip, core-knot, core-rest}
 
 apart : {X : Type 0} → _≡_ {A = ℕ} 0 1 → X
 apart e = absurd (omega arith)
@@ -91,23 +89,6 @@ module _ (n : ℕ) (f h : ℕ → Name) (st te : ℕ) (g : Named n f st te) (som
         distinct = distinct-more (none-new (steiner st) source-steiner (fresh-steiner st te) e);
       }
 
-module _ (ns : List Node) (st te p : ℕ) (n : Node) (h : p < length ns) (g : Named (length ns) (nameOf ns) st te) where
-  same-names : (i : ℕ) → i < length ns → nameOf (attach ns p n) i ≡ nameOf ns i
-  same-names i l = ap (λ (x : Core). x .name) (core-old ns p n h i (omega arith))
-
-  new-name : nameOf (attach ns p n) (length ns) ≡ n .name
-  new-name = ap (λ (x : Core). x .name) (core-new ns p n h)
-
-  pub named-attach-terminal : n .name ≡ terminal te → Named (length (attach ns p n)) (nameOf (attach ns p n)) st (suc te)
-  named-attach-terminal e =
-      subst (λ (k : ℕ). Named k (nameOf (attach ns p n)) st (suc te)) (sym (length-attach ns p n h))
-      (named-terminal (length ns) (nameOf ns) (nameOf (attach ns p n)) st te g (omega arith) same-names (new-name ∙ e))
-
-  pub named-attach-steiner : n .name ≡ steiner st → Named (length (attach ns p n)) (nameOf (attach ns p n)) (suc st) te
-  named-attach-steiner e =
-      subst (λ (k : ℕ). Named k (nameOf (attach ns p n)) (suc st) te) (sym (length-attach ns p n h))
-      (named-steiner (length ns) (nameOf ns) (nameOf (attach ns p n)) st te g (omega arith) same-names (new-name ∙ e))
-
 module _ (ns : List Node) (st te : ℕ) (q : Point) (p c : ℕ) (g : Linked ns) (link : nodeAt ns c .parent ≡ at p) where
   abbrev M : List Node
   M = joined ns st te q (split p c)
@@ -127,7 +108,7 @@ terminalOf-append source q r t = refl
 terminalOf-append (steiner k) q r t = refl
 terminalOf-append (terminal k) q r t = refl
 
-terminals-append : (ns ms : List Node) → terminals (ns ++ ms) ≡ terminals ns ++ terminals ms
+pub terminals-append : (ns ms : List Node) → terminals (ns ++ ms) ≡ terminals ns ++ terminals ms
 unfolding terminals
 terminals-append [] ms = refl
 terminals-append (n ∷ ns) ms = ap (terminalOf (n .name) (n .point)) (terminals-append ns ms) ∙ terminalOf-append (n .name) (n .point) (terminals ns) (terminals ms)
@@ -138,7 +119,7 @@ terminals-set [] i m e = refl
 terminals-set (n ∷ ns) zero m e = ap (λ (x : Core). terminalOf (x .name) (x .point) (terminals ns)) e
 terminals-set (n ∷ ns) (suc i) m e = ap (terminalOf (n .name) (n .point)) (terminals-set ns i m e)
 
-terminals-change : (ns : List Node) (i : ℕ) (f : Node → Node) → ((m : Node) → core (f m) ≡ core m) → terminals (change ns i f) ≡ terminals ns
+pub terminals-change : (ns : List Node) (i : ℕ) (f : Node → Node) → ((m : Node) → core (f m) ≡ core m) → terminals (change ns i f) ≡ terminals ns
 unfolding change nodeAt
 terminals-change ns i f k = terminals-set ns i _ (k _)
 

@@ -1,15 +1,16 @@
 -- The nodes after a joining, by index.
-use mathlib.Core.Path.{_≡_, refl, sym, ap, subst, _∙_}
+use mathlib.Core.Path.{_≡_, sym, ap, _∙_}
 use mathlib.Core.Logic.{_≢_}
 use mathlib.Core.List.{List, [], _∷_, _++_}
-use Prim.Native.Nat.{ℕ, zero, suc, _+_, _-_, _≤_, _<_}
+use Prim.Native.Nat.{ℕ, suc, _+_, _≤_, _<_}
+use native.Mathlib.Decide.{ℕ-discrete}
 use native.Mathlib.Omega.{arith}
-use lib.ListN.{length, getD, set, length-append, length-set, List·getD-append, List·getD-eq-default}
+use lib.ListN.{length, getD, length-append, length-set, List·getD-append, List·getD-eq-default}
 use lib.Seq.{getD-set-same, getD-set-other, getD-append-add}
 use Rattle.geometry.specs.declared.Point.{Point}
 use Rattle.geometry.specs.Geometry.{dist}
-use Rattle.tree.specs.Tree.{Node, Name, terminal, steiner, Parent, at, nodeAt, change, blank, adopt, replaceLast, withParent}
-use Rattle.tree.specs.Search.{Join, onto, split, branch}
+use Rattle.tree.specs.Tree.{Node, terminal, steiner, nodeAt, change, blank, adopt, replaceLast, withParent}
+use Rattle.tree.specs.Search.{split, branch}
 use Rattle.tree.specs.Route.{newNode, attach, joined}
 use Rattle.tree.proofs.Order.{Tri, less, equal, more, tri}
 
@@ -66,6 +67,28 @@ module _ (ns : List Node) (p : ℕ) (n : Node) (h : p < length ns) where
       by (less a) (less b) = old (omega arith) (omega arith) (in-front _ _ j (omega (arith, l)) ∙ unchanged ns p j _ (omega arith))
       by (less a) (more b) = old (omega arith) (omega arith) (in-front _ _ j (omega (arith, l)) ∙ unchanged ns p j _ (omega arith))
 
+-- ---- two nodes change
+module _ (ns : List Node) (p c : ℕ) (f g : Node → Node) where
+  abbrev pub changedTwo : List Node
+  changedTwo = change (change ns p f) c g
+
+  pub length-two : length changedTwo ≡ length ns
+  length-two = length-change (change ns p f) c g ∙ length-change ns p f
+
+  module _ (hp : p < length ns) (hc : c < length ns) (ne : c ≢ p) where
+    pub data AtTwo (j : ℕ) : Type 0 where
+      first : j ≡ p → nodeAt changedTwo j ≡ f (nodeAt ns p) → AtTwo j
+      second : j ≡ c → nodeAt changedTwo j ≡ g (nodeAt ns c) → AtTwo j
+      neither : j ≢ p → j ≢ c → nodeAt changedTwo j ≡ nodeAt ns j → AtTwo j
+
+    pub at-two : (j : ℕ) → AtTwo j
+    at-two j = by (ℕ-discrete j p) (ℕ-discrete j c)
+      where
+        by : Dec (j ≡ p) → Dec (j ≡ c) → AtTwo j
+        by (yes a) d = first a (ap (nodeAt changedTwo) a ∙ unchanged (change ns p f) c p g (λ z. ne (sym z)) ∙ changed ns p f hp)
+        by (no a) (yes b) = second b (ap (nodeAt changedTwo) b ∙ changed (change ns p f) c g (omega (arith, length-change ns p f)) ∙ ap g (unchanged ns p c f ne))
+        by (no a) (no b) = neither a b (unchanged (change ns p f) c j g b ∙ unchanged ns p j f a)
+
 -- ---- on the branch from p to its child c
 module _ (ns : List Node) (st te : ℕ) (q : Point) (p c : ℕ) (hp : p < length ns) (hc : c < length ns) (ne : c ≢ p) where
   abbrev s : ℕ
@@ -90,51 +113,30 @@ module _ (ns : List Node) (st te : ℕ) (q : Point) (p c : ℕ) (hp : p < length
     end : j ≡ c → nodeAt splitNodes j ≡ withParent s (nodeAt ns c) → AtSplit j
     rest : j ≢ length ns → j ≢ s → j ≢ p → j ≢ c → nodeAt splitNodes j ≡ nodeAt ns j → AtSplit j
 
-  one-change : List Node
-  one-change = change ns p (replaceLast c s)
+  -- the old nodes
+  abbrev turned : List Node
+  turned = changedTwo ns p c (replaceLast c s) (withParent s)
 
-  two-changes : List Node
-  unfolding one-change
-  two-changes = change one-change c (withParent s)
-
-  l : length two-changes ≡ length ns
-  unfolding two-changes
-  l = length-change one-change c _ ∙ length-change ns p _
+  l : length turned ≡ length ns
+  l = length-two ns p c (replaceLast c s) (withParent s)
 
   pub length-split : length splitNodes ≡ suc (suc (length ns))
-  unfolding joined two-changes
-  length-split = omega (arith, length-append two-changes (splitTerminal ∷ splitSteiner ∷ []), l)
-
-  kept : (j : ℕ) → j ≢ p → j ≢ c → nodeAt two-changes j ≡ nodeAt ns j
-  unfolding two-changes
-  kept j f g = unchanged one-change c j _ g ∙ unchanged ns p j _ f
+  unfolding joined
+  length-split = omega (arith, length-append turned (splitTerminal ∷ splitSteiner ∷ []), l)
 
   pub at-split : (j : ℕ) → AtSplit j
-  unfolding joined two-changes
-  at-split j = by (tri j (length ns)) (tri j s) (tri j p) (tri j c)
+  unfolding joined
+  at-split j = by (tri j (length ns)) (tri j s) (at-two ns p c (replaceLast c s) (withParent s) hp hc ne j)
     where
-      front : j < length ns → nodeAt splitNodes j ≡ nodeAt two-changes j
-      front a = in-front two-changes _ j (omega (arith, l))
+      front : j < length ns → nodeAt splitNodes j ≡ nodeAt turned j
+      front a = in-front turned _ j (omega (arith, l))
 
-      at-p : nodeAt two-changes p ≡ replaceLast c s (nodeAt ns p)
-      at-p = unchanged one-change c p _ (omega arith) ∙ changed ns p _ hp
-
-      at-c : nodeAt two-changes c ≡ withParent s (nodeAt ns c)
-      at-c = changed one-change c _ (omega (arith, length-change ns p (replaceLast c s))) ∙ ap (withParent s) (unchanged ns p c _ ne)
-
-      same-as : j < length ns → j ≢ p → j ≢ c → AtSplit j
-      same-as a f g = rest (omega arith) (omega arith) f g (front a ∙ kept j f g)
-
-      by : Tri j (length ns) → Tri j s → Tri j p → Tri j c → AtSplit j
-      by (equal a) u t v = tip a (behind two-changes splitTerminal _ j (omega (arith, l)))
-      by (more a) (equal b) t v = knot b (behind-two two-changes splitTerminal splitSteiner [] j (omega (arith, l)))
-      by (more a) (more b) t v =
+      by : Tri j (length ns) → Tri j s → AtTwo ns p c (replaceLast c s) (withParent s) hp hc ne j → AtSplit j
+      by (equal a) u v = tip a (behind turned splitTerminal _ j (omega (arith, l)))
+      by (more a) (equal b) v = knot b (behind-two turned splitTerminal splitSteiner [] j (omega (arith, l)))
+      by (more a) (more b) v =
           rest (omega arith) (omega arith) (omega arith) (omega arith) (past splitNodes j (omega (arith, length-split)) ∙ sym (past ns j (omega arith)))
-      by (more a) (less b) t v = absurd (omega arith)
-      by (less a) u (equal b) v = start b (front a ∙ ap (nodeAt two-changes) b ∙ at-p)
-      by (less a) u (less b) (equal d) = end d (front a ∙ ap (nodeAt two-changes) d ∙ at-c)
-      by (less a) u (more b) (equal d) = end d (front a ∙ ap (nodeAt two-changes) d ∙ at-c)
-      by (less a) u (less b) (less d) = same-as a (omega arith) (omega arith)
-      by (less a) u (less b) (more d) = same-as a (omega arith) (omega arith)
-      by (less a) u (more b) (less d) = same-as a (omega arith) (omega arith)
-      by (less a) u (more b) (more d) = same-as a (omega arith) (omega arith)
+      by (more a) (less b) v = absurd (omega arith)
+      by (less a) u (first e f) = start e (front a ∙ f)
+      by (less a) u (second e f) = end e (front a ∙ f)
+      by (less a) u (neither d e f) = rest (omega arith) (omega arith) d e (front a ∙ f)

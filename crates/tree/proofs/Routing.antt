@@ -23,7 +23,8 @@ use Rattle.tree.proofs.Order.{clash, farthest-sort, directs-sort, times
 use Rattle.tree.proofs.Nodes.{length-attach, length-split}
 use Rattle.tree.proofs.Linking.{child-in, parent-in, not-own, none-at, linked-attach, linked-split}
 use Rattle.tree.proofs.Measuring.{Core, core, core-new, core-old, core-tip, core-knot, core-rest, measured-attach, measured-split, total-attach, total-split, reaches, path-is-sum}
-use Rattle.tree.proofs.Naming.{source-terminal, named-attach-terminal, named-split, terminals-joined}
+use Rattle.tree.proofs.Naming.{source-terminal, named-split, terminals-joined}
+use Rattle.tree.proofs.Adding.{adds-attach, named-adds}
 use Rattle.tree.proofs.Searching.{added, reach, Worth, find-worth}
 
 -- ---- one joining
@@ -49,7 +50,7 @@ module _ (s : Point) (ns : List Node) (st te : ℕ) (q : Point) (g : Linked ns) 
   pub named-joined : (j : Join) → Fits ns j → Named (length ns) (nameOf ns) st te
       → Named (length (joined ns st te q j)) (nameOf (joined ns st te q j)) (nextAfter st j) (suc te)
   unfolding joined
-  named-joined (onto p) h d = named-attach-terminal ns st te p (tip p) h d refl
+  named-joined (onto p) h d = named-adds (adds-attach ns p (tip p) h) st te (g .some) refl d
   named-joined (split p c) h d = named-split ns st te q p c g h d
 
   pub length-joined : (j : Join) → Fits ns j → length (joined ns st te q j) ≤ suc (suc (length ns))
@@ -272,7 +273,7 @@ planned-simple t q r =
     let h = closest-in (t .nodes) q (r .linked .some) (length (t .nodes)) (omega arith) in
     record {
       linked = linked-attach (t .nodes) _ _ h (r .linked) refl refl;
-      named = named-attach-terminal (t .nodes) _ _ _ _ h (r .named) refl;
+      named = named-adds (adds-attach (t .nodes) _ _ h) _ _ (r .linked .some) refl (r .named);
     }
 
 pub planned-simples : (qs : List Point) (t : Tree) → Planned t → Planned (inserts insertSimple qs t)

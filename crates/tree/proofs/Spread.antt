@@ -1,21 +1,21 @@
 -- Coordinates stay within the limit, and so do path lengths within i32.
-use mathlib.Core.Path.{_≡_, refl, sym, ap, subst, _∙_}
-use mathlib.Core.List.{List, [], _∷_}
-use Prim.Native.Nat.{ℕ, zero, suc, _+_, _*_, _≤_, _<_, max}
+use mathlib.Core.Path.{_≡_, refl, ap}
+use mathlib.Core.List.{List}
+use Prim.Native.Nat.{ℕ, zero, suc, _*_, _≤_, _<_}
 use native.Mathlib.Omega.{arith}
 use lib.ListN.{length}
 use Rattle.tree.specs.Limits.{across, reach}
 use Rattle.geometry.specs.declared.Point.{Point}
-use Rattle.geometry.specs.Geometry.{dist}
 use Rattle.tree.specs.Tree.{Node, Parent, none, at, nodeAt}
 use Rattle.tree.specs.Search.{Join, onto, split}
-use Rattle.tree.specs.Route.{newNode, attach, joined}
+use Rattle.tree.specs.Route.{joined}
 use Rattle.tree.specs.Shape.{Linked, Measured}
 use Rattle.geometry.specs.Laws.{Within, dist-small, nearest-within}
 use Rattle.tree.proofs.Linking.{parent-in}
 use Rattle.tree.specs.WellFormed.{Fits}
 use Rattle.tree.proofs.Measuring.{Core}
-use Rattle.tree.proofs.Every.{every-attach, every-split}
+use Rattle.tree.proofs.Adding.{adds-attach, every-adds}
+use Rattle.tree.proofs.Every.{every-split}
 use Rattle.tree.proofs.Routing.{tip}
 
 abbrev pub Spread : ℕ → List Node → Type 0
@@ -27,7 +27,7 @@ module _ (M : ℕ) (s : Point) (ns : List Node) (st te : ℕ) (q : Point) (g : L
 
   pub spread-joined : (j : Join) → Fits ns j → Spread M (joined ns st te q j)
   unfolding joined
-  spread-joined (onto p) h = every-attach In ns all p (tip s ns st te q g p) h new
+  spread-joined (onto p) h = every-adds (adds-attach ns p (tip s ns st te q g p) h) In all new
   spread-joined (split p c) h = every-split In ns all st te q p c g h new (nearest-within q (all p) (all c))
 
 -- a path of k steps, each of at most 4,000,000

@@ -2,7 +2,9 @@ pub mod Limits
 pub mod Tree
 pub mod Search
 pub mod Route
+pub mod Edits
 pub mod Shape
 pub mod WellFormed
 pub mod Memory
 pub mod Measures
+pub mod Optimize

@@ -1,11 +1,11 @@
 -- What every tree that the calls give is (document 01, "What each party can get wrong"), and where a point may join one.
-use Prim.Native.Nat.{ℕ, _+_, _-_, _*_, _≤_, _<_}
+use Prim.Native.Nat.{ℕ, suc, _+_, _-_, _*_, _≤_, _<_}
 use mathlib.Core.Path.{_≡_}
 use mathlib.Core.List.{List}
 use lib.ListN.{length}
 use Rattle.geometry.specs.Laws.{Within}
 use Rattle.tree.specs.Limits.{across, reach}
-use Rattle.tree.specs.Tree.{Node, Tree, at, nodeAt}
+use Rattle.tree.specs.Tree.{Node, Tree, at, nodeAt, terminals}
 use Rattle.tree.specs.Search.{Join, onto, split}
 use Rattle.tree.specs.Shape.{Linked, Named, nameOf}
 
@@ -16,8 +16,8 @@ pub record WellFormed (t : Tree) : Type 0 where
   pub near : (i : ℕ) → Within reach (nodeAt (t .nodes) i .point)
   -- a terminal adds to a path no more than the farthest that two points can be apart
   pub short : (i : ℕ) → nodeAt (t .nodes) i .path ≤ across * (t .nextTerminal - 1)
-  -- each terminal number that was given out brought a node
-  pub terminals : t .nextTerminal ≤ length (t .nodes)
+  -- each terminal number that was given out has its node
+  pub terminals : suc (length (terminals (t .nodes))) ≡ t .nextTerminal
 
 -- a tree that a route has on its way: each node but the source is a terminal, or a Steiner node that a terminal brought
 pub record Counted (t : Tree) : Type 0 where

@@ -16,10 +16,16 @@ no-links-requires c κs = search needs
 no-links-requires-2 : tie.Need-no-links-requires-2
 no-links-requires-2 c κs = search needs
 
+no-links-requires-3 : tie.Need-no-links-requires-3
+no-links-requires-3 c κs = search needs
+
 returns : tie.Need-returns
 returns c =
-    let b = c .before .before .blank-nodes .ensures in
-    (begun-is _ _ _ _ b (c .before .no-links .ensures) (c .no-links2 .ensures), begun-stored _ _ _ _ b (c .before .no-links .ensures) (c .no-links2 .ensures) (c .before .before .before .pre))
+    let b = c .before .before .before .blank-nodes .ensures in
+    let l = c .before .before .no-links .ensures in
+    let p = c .before .no-links2 .ensures in
+    let n = c .no-links3 .ensures in
+    (begun-is _ _ _ _ _ b l p n, begun-stored _ _ _ _ _ b l p n (c .before .before .before .before .pre))
 
 pub begin-spec : {M : Type 1} → statement M
 begin-spec =
@@ -29,4 +35,5 @@ begin-spec =
     array-set-from-nodes
     no-links-requires
     no-links-requires-2
+    no-links-requires-3
     returns)

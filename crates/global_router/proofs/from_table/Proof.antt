@@ -34,7 +34,7 @@ pack-requires c κs = search needs
 
 returns : tie.Need-returns
 returns c =
-    let s = c .before .before .before .before .before .before .before .before .before .before .before .before .before .before .before .before .before .before .before .before in
+    let s = c .before .before .before .before .before .before .before .before .before .before .before .before .before .before .before .before .before .before .before .before .before in
     packed (s .args .t) (s .pre) _ (c .before .before .before .before .before .before .before .before .before .before .wide .ensures) _ (c .before .pack .ensures) (allowed-in s)
 
 pub from-table-spec : {M : Type 1} → statement M

@@ -8,7 +8,7 @@ enum-told : tie.Need-enum-told
 enum-told c = search needs
 
 insert-simple-requires : tie.Need-insert-simple-requires
-insert-simple-requires c κs = by-simple _ (c .before .before .before .before .before .before .before .before .before .before .before .before .before .before .before .before .before .pre)
+insert-simple-requires c κs = by-simple _ (c .before .before .before .before .before .before .before .before .before .before .before .before .before .before .before .before .before .before .before .pre)
 
 enum-told-2 : tie.Need-enum-told-2
 enum-told-2 c = search needs
@@ -17,17 +17,17 @@ wide-requires : tie.Need-wide-requires
 wide-requires c κs = search needs
 
 find-insertion-point-requires : tie.Need-find-insertion-point-requires
-find-insertion-point-requires c κs = ready _ (c .before .before .before .before .before .before .before .before .before .before .before .before .before .before .before .pre) _ (c .before .before .before .before .before .wide .ensures)
+find-insertion-point-requires c κs = ready _ (c .before .before .before .before .before .before .before .before .before .before .before .before .before .before .before .before .pre) _ (c .before .before .before .before .before .wide .ensures)
 
 join-requires : tie.Need-join-requires
-join-requires c κs = by-search _ (c .before .before .before .before .before .before .before .before .before .before .before .before .before .before .before .before .before .before .before .before .before .before .before .before .pre) _ (c .before .before .before .before .before .before .before .before .before .before .before .before .before .before .wide .ensures) _ (c .before .before .before .before .before .before .before .before .find-insertion-point .result) (c .before .before .before .before .before .before .before .before .find-insertion-point .ensures)
+join-requires c κs = by-search _ (c .before .before .before .before .before .before .before .before .before .before .before .before .before .before .before .before .before .before .before .before .before .before .before .before .before .before .pre) _ (c .before .before .before .before .before .before .before .before .before .before .before .before .before .before .before .wide .ensures) _ (c .before .before .before .before .before .before .before .before .before .find-insertion-point .result) (c .before .before .before .before .before .before .before .before .before .find-insertion-point .ensures)
 
 -- the places after the two calls
-abbrev simple : tie.After-slice-known12 → tie.After-insert-simple
-simple c = c .before .before .before .before .before .before .before .before .before .before .before .before .before .before
+abbrev simple : tie.After-slice-known14 → tie.After-insert-simple
+simple c = c .before .before .before .before .before .before .before .before .before .before .before .before .before .before .before .before
 
-abbrev joined : tie.After-slice-known18 → tie.After-join
-joined c = c .before .before .before .before .before .before .before .before .before .before .before .before .before .before
+abbrev joined : tie.After-slice-known21 → tie.After-join
+joined c = c .before .before .before .before .before .before .before .before .before .before .before .before .before .before .before .before
 
 same-length : tie.Need-same-length
 same-length c = simple c .insert-simple .kept .0
@@ -53,35 +53,41 @@ same-length-7 c = simple c .insert-simple .kept .1 .1 .1 .1 .1 .1 .0
 same-length-8 : tie.Need-same-length-8
 same-length-8 c = simple c .insert-simple .kept .1 .1 .1 .1 .1 .1 .1 .0
 
-returns : tie.Need-returns
-returns c = did-by-simple _ (c .before .before .before .before .before .before .before .before .before .before .before .before .before .before .before .before .before .before .before .before .before .before .before .before .before .before .before .before .before .before .before .before .pre) _ (c .before .before .before .before .before .before .before .before .before .before .before .before .before .before .before .before .before .before .before .before .before .before .before .enum-told .given .1) _ _ _ (simple c .insert-simple .ensures)
-
 same-length-9 : tie.Need-same-length-9
-same-length-9 c = joined c .join .kept .0
+same-length-9 c = simple c .insert-simple .kept .1 .1 .1 .1 .1 .1 .1 .1 .0
+
+returns : tie.Need-returns
+returns c = did-by-simple _ (c .before .before .before .before .before .before .before .before .before .before .before .before .before .before .before .before .before .before .before .before .before .before .before .before .before .before .before .before .before .before .before .before .before .before .before .before .pre) _ (c .before .before .before .before .before .before .before .before .before .before .before .before .before .before .before .before .before .before .before .before .before .before .before .before .before .before .enum-told .given .1) _ _ _ (simple c .insert-simple .ensures)
 
 same-length-10 : tie.Need-same-length-10
-same-length-10 c = joined c .join .kept .1 .0
+same-length-10 c = joined c .join .kept .0
 
 same-length-11 : tie.Need-same-length-11
-same-length-11 c = joined c .join .kept .1 .1 .0
+same-length-11 c = joined c .join .kept .1 .0
 
 same-length-12 : tie.Need-same-length-12
-same-length-12 c = joined c .join .kept .1 .1 .1 .0
+same-length-12 c = joined c .join .kept .1 .1 .0
 
 same-length-13 : tie.Need-same-length-13
-same-length-13 c = joined c .join .kept .1 .1 .1 .1 .0
+same-length-13 c = joined c .join .kept .1 .1 .1 .0
 
 same-length-14 : tie.Need-same-length-14
-same-length-14 c = joined c .join .kept .1 .1 .1 .1 .1 .0
+same-length-14 c = joined c .join .kept .1 .1 .1 .1 .0
 
 same-length-15 : tie.Need-same-length-15
-same-length-15 c = joined c .join .kept .1 .1 .1 .1 .1 .1 .0
+same-length-15 c = joined c .join .kept .1 .1 .1 .1 .1 .0
 
 same-length-16 : tie.Need-same-length-16
-same-length-16 c = joined c .join .kept .1 .1 .1 .1 .1 .1 .1 .0
+same-length-16 c = joined c .join .kept .1 .1 .1 .1 .1 .1 .0
+
+same-length-17 : tie.Need-same-length-17
+same-length-17 c = joined c .join .kept .1 .1 .1 .1 .1 .1 .1 .0
+
+same-length-18 : tie.Need-same-length-18
+same-length-18 c = joined c .join .kept .1 .1 .1 .1 .1 .1 .1 .1 .0
 
 returns-2 : tie.Need-returns-2
-returns-2 c = did-search _ (c .before .before .before .before .before .before .before .before .before .before .before .before .before .before .before .before .before .before .before .before .before .before .before .before .before .before .before .before .before .before .before .before .before .before .before .before .before .before .before .pre) _ (c .before .before .before .before .before .before .before .before .before .before .before .before .before .before .before .before .before .before .before .before .before .before .before .before .before .before .before .before .before .wide .ensures) _ (c .before .before .before .before .before .before .before .before .before .before .before .before .before .before .before .before .before .before .before .before .before .before .before .find-insertion-point .result) (c .before .before .before .before .before .before .before .before .before .before .before .before .before .before .before .before .before .before .before .before .before .before .before .find-insertion-point .ensures) _ (c .before .before .before .before .before .before .before .before .before .before .before .before .before .before .before .before .before .before .before .before .before .before .before .before .before .before .before .before .before .before .enum-told2 .given .1) _ _ (joined c .join .ensures)
+returns-2 c = did-search _ (c .before .before .before .before .before .before .before .before .before .before .before .before .before .before .before .before .before .before .before .before .before .before .before .before .before .before .before .before .before .before .before .before .before .before .before .before .before .before .before .before .before .before .before .pre) _ (c .before .before .before .before .before .before .before .before .before .before .before .before .before .before .before .before .before .before .before .before .before .before .before .before .before .before .before .before .before .before .before .before .wide .ensures) _ (c .before .before .before .before .before .before .before .before .before .before .before .before .before .before .before .before .before .before .before .before .before .before .before .before .before .before .find-insertion-point .result) (c .before .before .before .before .before .before .before .before .before .before .before .before .before .before .before .before .before .before .before .before .before .before .before .before .before .before .find-insertion-point .ensures) _ (c .before .before .before .before .before .before .before .before .before .before .before .before .before .before .before .before .before .before .before .before .before .before .before .before .before .before .before .before .before .before .before .before .before .enum-told2 .given .1) _ _ (joined c .join .ensures)
 
 pub insert-terminal-spec : {M : Type 1} → statement M
 insert-terminal-spec =
@@ -101,8 +107,8 @@ insert-terminal-spec =
     same-length-6
     same-length-7
     same-length-8
-    returns
     same-length-9
+    returns
     same-length-10
     same-length-11
     same-length-12
@@ -110,4 +116,6 @@ insert-terminal-spec =
     same-length-14
     same-length-15
     same-length-16
+    same-length-17
+    same-length-18
     returns-2)

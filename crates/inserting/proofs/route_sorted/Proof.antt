@@ -3,52 +3,53 @@ use Prim.Native.Nat.{_-_}
 use mathlib.Core.Path.{refl, sym, _∙_}
 use native.Mathlib.Omega.{arith}
 use lib.ListN.{length}
-use Rattle.joining.specs.Store.{Columns, rowsOf, columns}
+use Rattle.joining.specs.Links.{links}
+use Rattle.joining.specs.Store.{Store, rowsOf, store}
 use Rattle.inserting.proofs.Turning.{Under, starts, stands, turn, ends}
 use Rattle.inserting.proofs.route_sorted.Statement.{statement}
 use Rattle.inserting.proofs.route_sorted.Tie as tie
 
 abbrev Inv-loop : tie.InvT-loop
-Inv-loop xs₀ ys₀ path₀ parent₀ kind₀ number₀ last₀ prev₀ px py ks way a k₀ i₀ xs ys path parent kind number last prev k i =
-    Under (length prev₀) way ks px py a i k (columns (rowsOf xs ys path parent kind number) last prev)
+Inv-loop xs₀ ys₀ path₀ parent₀ kind₀ number₀ last₀ prev₀ next₀ px py ks way a k₀ i₀ xs ys path parent kind number last prev next k i =
+    Under (length prev₀) way ks px py a i k (store (rowsOf xs ys path parent kind number) (links last prev next))
 
 abbrev μ-loop : tie.MeasureT-loop
-μ-loop xs₀ ys₀ path₀ parent₀ kind₀ number₀ last₀ prev₀ px py ks way a k₀ i₀ xs ys path parent kind number last prev k i = length px - i
+μ-loop xs₀ ys₀ path₀ parent₀ kind₀ number₀ last₀ prev₀ next₀ px py ks way a k₀ i₀ xs ys path parent kind number last prev next k i = length px - i
 
 -- the columns at entry, and at the loop's head
-abbrev cols : tie.Start Inv-loop μ-loop → Columns
-cols s = columns (rowsOf (s .args .xs .now) (s .args .ys .now) (s .args .path .now) (s .args .parent .now) (s .args .kind .now) (s .args .number .now)) (s .args .last .now) (s .args .prev .now)
+abbrev cols : tie.Start Inv-loop μ-loop → Store
+cols s = store (rowsOf (s .args .xs .now) (s .args .ys .now) (s .args .path .now) (s .args .parent .now) (s .args .kind .now) (s .args .number .now)) (links (s .args .last .now) (s .args .prev .now) (s .args .next .now))
 
-abbrev here : tie.At-loop Inv-loop μ-loop → Columns
-here d = columns (rowsOf (d .loop .xs) (d .loop .ys) (d .loop .path) (d .loop .parent) (d .loop .kind) (d .loop .number)) (d .loop .last) (d .loop .prev)
+abbrev here : tie.At-loop Inv-loop μ-loop → Store
+here d = store (rowsOf (d .loop .xs) (d .loop .ys) (d .loop .path) (d .loop .parent) (d .loop .kind) (d .loop .number)) (links (d .loop .last) (d .loop .prev) (d .loop .next))
 
 -- the places on the way to the end of a turn
 abbrev entry : tie.At-loop Inv-loop μ-loop → tie.Start Inv-loop μ-loop
-entry c = c .before .before .before .before .before .before .before .before .before .before .before .before .before .before .before .before .before .before .before .before .before .before .before .before .before .before .before .before
+entry c = c .before .before .before .before .before .before .before .before .before .before .before .before .before .before .before .before .before .before .before .before .before .before .before .before .before .before .before .before .before
 
-abbrev asked : tie.After-slice-known17 Inv-loop μ-loop → tie.After-query-at Inv-loop μ-loop
-asked c = c .before .before .before .before .before .before .before .before .before .before .before .before .before .before .before .before .before .before .before .before .before .before .before
+abbrev asked : tie.After-slice-known19 Inv-loop μ-loop → tie.After-query-at Inv-loop μ-loop
+asked c = c .before .before .before .before .before .before .before .before .before .before .before .before .before .before .before .before .before .before .before .before .before .before .before .before .before .before
 
 store-source-requires : tie.Need-store-source-requires Inv-loop μ-loop
-store-source-requires c κs = let v = c .before .before .before .before .before .before .before .before .before .before .before .before .before .before .pre in (v .sized .rows, (omega (arith, v .room), omega (arith, v .room, v .sized .last)))
+store-source-requires c κs = let v = c .before .before .before .before .before .before .before .before .before .before .before .before .before .before .before .pre in (v .sized .rows, (omega (arith, v .room), omega (arith, v .room, v .sized .links .last)))
 
 loop-holds : tie.Need-loop-holds Inv-loop μ-loop
 loop-holds c =
-    let s = c .before .before .before .before .before .before .before .before .before .before .before .before .before .before .before .before .before .before .before .before .before .before .before .before .before .before .before in
+    let s = c .before .before .before .before .before .before .before .before .before .before .before .before .before .before .before .before .before .before .before .before .before .before .before .before .before .before .before .before in
     let e = c .before .before .before .before .before .before .before .before .before .before .before .before .store-source .ensures in
-    starts (s .args .way) _ _ _ _ (cols s) (s .pre) _ (record { rows = e .0; last = e .1; prev = refl })
+    starts (s .args .way) _ _ _ _ (cols s) (s .pre) _ (record { rows = e .0; last = e .1; prev = refl; next = refl })
 
 query-at-requires : tie.Need-query-at-requires Inv-loop μ-loop
-query-at-requires c κs = (c .loop-test .taken, omega (arith, c .loop-test .taken, c .before .before .before .before .before .before .before .before .before .before .before .before .before .before .before .before .before .before .before .before .before .before .before .before .before .before .before .before .before .pre .both))
+query-at-requires c κs = (c .loop-test .taken, omega (arith, c .loop-test .taken, c .before .before .before .before .before .before .before .before .before .before .before .before .before .before .before .before .before .before .before .before .before .before .before .before .before .before .before .before .before .before .pre .both))
 
 insert-terminal-requires : tie.Need-insert-terminal-requires Inv-loop μ-loop
 insert-terminal-requires c κs =
-    let s = c .before .before .before .before .before .before .before .before .before .before .before .before .before .before .before .before .before .before .before .before .before .before .before .before .before .before .before .before .before .before .before .before .before .before .before .before .before .before in
-    let d = c .before .before .before .before .before .before .before .before .before .before in
-    stands (s .args .way) _ _ _ _ (cols s) (s .pre) _ _ (here d) (d .loop .inv) (c .before .before .before .before .before .before .before .before .before .loop-test .taken) _ (c .before .before .before .before .before .before .before .before .query-at .ensures)
+    let s = c .before .before .before .before .before .before .before .before .before .before .before .before .before .before .before .before .before .before .before .before .before .before .before .before .before .before .before .before .before .before .before .before .before .before .before .before .before .before .before .before in
+    let d = c .before .before .before .before .before .before .before .before .before .before .before in
+    stands (s .args .way) _ _ _ _ (cols s) (s .pre) _ _ (here d) (d .loop .inv) (c .before .before .before .before .before .before .before .before .before .before .loop-test .taken) _ (c .before .before .before .before .before .before .before .before .before .query-at .ensures)
 
 add-i : tie.Need-add-i Inv-loop μ-loop
-add-i c = omega (arith, asked c .before .loop-test .taken, c .before .before .before .before .before .before .before .before .before .before .before .before .before .before .before .before .before .before .before .before .before .before .before .before .before .before .before .before .before .before .before .before .before .before .before .before .before .before .before .before .before .before .before .before .before .before .before .before .before .before .before .before .before .pre .few)
+add-i c = omega (arith, asked c .before .loop-test .taken, c .before .before .before .before .before .before .before .before .before .before .before .before .before .before .before .before .before .before .before .before .before .before .before .before .before .before .before .before .before .before .before .before .before .before .before .before .before .before .before .before .before .before .before .before .before .before .before .before .before .before .before .before .before .before .before .before .before .pre .few)
 
 loop-less : tie.Need-loop-less Inv-loop μ-loop
 loop-less c = omega (arith, asked c .before .loop-test .taken)
@@ -58,31 +59,34 @@ loop-again c =
     let a = asked c in
     let d = a .before .before in
     let s = entry d in
-    turn (s .args .way) _ _ _ _ (cols s) (s .pre) _ _ (here d) (d .loop .inv) (a .before .loop-test .taken) _ (a .query-at .ensures) _ _ (c .before .before .before .before .before .before .before .before .before .before .before .before .before .before .insert-terminal .ensures)
+    turn (s .args .way) _ _ _ _ (cols s) (s .pre) _ _ (here d) (d .loop .inv) (a .before .loop-test .taken) _ (a .query-at .ensures) _ _ (c .before .before .before .before .before .before .before .before .before .before .before .before .before .before .before .before .insert-terminal .ensures)
 
 same-length : tie.Need-same-length Inv-loop μ-loop
-same-length c = let z = entry (c .before) .pre .sized in c .before .loop .inv .sized .rows .xs ∙ z .prev ∙ sym (z .rows .xs)
+same-length c = let z = entry (c .before) .pre .sized in c .before .loop .inv .sized .rows .xs ∙ z .links .prev ∙ sym (z .rows .xs)
 
 same-length-2 : tie.Need-same-length-2 Inv-loop μ-loop
-same-length-2 c = let z = entry (c .before) .pre .sized in c .before .loop .inv .sized .rows .ys ∙ z .prev ∙ sym (z .rows .ys)
+same-length-2 c = let z = entry (c .before) .pre .sized in c .before .loop .inv .sized .rows .ys ∙ z .links .prev ∙ sym (z .rows .ys)
 
 same-length-3 : tie.Need-same-length-3 Inv-loop μ-loop
-same-length-3 c = let z = entry (c .before) .pre .sized in c .before .loop .inv .sized .rows .path ∙ z .prev ∙ sym (z .rows .path)
+same-length-3 c = let z = entry (c .before) .pre .sized in c .before .loop .inv .sized .rows .path ∙ z .links .prev ∙ sym (z .rows .path)
 
 same-length-4 : tie.Need-same-length-4 Inv-loop μ-loop
-same-length-4 c = let z = entry (c .before) .pre .sized in c .before .loop .inv .sized .rows .parent ∙ z .prev ∙ sym (z .rows .parent)
+same-length-4 c = let z = entry (c .before) .pre .sized in c .before .loop .inv .sized .rows .parent ∙ z .links .prev ∙ sym (z .rows .parent)
 
 same-length-5 : tie.Need-same-length-5 Inv-loop μ-loop
-same-length-5 c = let z = entry (c .before) .pre .sized in c .before .loop .inv .sized .rows .kind ∙ z .prev ∙ sym (z .rows .kind)
+same-length-5 c = let z = entry (c .before) .pre .sized in c .before .loop .inv .sized .rows .kind ∙ z .links .prev ∙ sym (z .rows .kind)
 
 same-length-6 : tie.Need-same-length-6 Inv-loop μ-loop
-same-length-6 c = let z = entry (c .before) .pre .sized in c .before .loop .inv .sized .rows .number ∙ z .prev ∙ sym (z .rows .number)
+same-length-6 c = let z = entry (c .before) .pre .sized in c .before .loop .inv .sized .rows .number ∙ z .links .prev ∙ sym (z .rows .number)
 
 same-length-7 : tie.Need-same-length-7 Inv-loop μ-loop
-same-length-7 c = let z = entry (c .before) .pre .sized in c .before .loop .inv .sized .last ∙ z .prev ∙ sym (z .last)
+same-length-7 c = let z = entry (c .before) .pre .sized in c .before .loop .inv .sized .links .last ∙ z .links .prev ∙ sym (z .links .last)
 
 same-length-8 : tie.Need-same-length-8 Inv-loop μ-loop
-same-length-8 c = c .before .loop .inv .sized .prev
+same-length-8 c = c .before .loop .inv .sized .links .prev
+
+same-length-9 : tie.Need-same-length-9 Inv-loop μ-loop
+same-length-9 c = let z = entry (c .before) .pre .sized in c .before .loop .inv .sized .links .next ∙ z .links .prev ∙ sym (z .links .next)
 
 returns : tie.Need-returns Inv-loop μ-loop
 returns c =
@@ -111,4 +115,5 @@ route-sorted-spec =
     same-length-6
     same-length-7
     same-length-8
+    same-length-9
     returns)

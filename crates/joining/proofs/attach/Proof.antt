@@ -4,19 +4,19 @@ use Rattle.joining.proofs.attach.Statement.{statement}
 use Rattle.joining.proofs.attach.Tie as tie
 
 store-row-requires : tie.Need-store-row-requires
-store-row-requires c κs = let v = c .before .before .before .before .before .before .before .before .before .before .before .before .before .pre in (v .sized .rows, v .room)
+store-row-requires c κs = let v = c .before .before .before .before .before .before .before .before .before .before .before .before .before .before .pre in (v .sized .rows, v .room)
 
 append-child-requires : tie.Need-append-child-requires
 append-child-requires c κs =
-    let v = c .before .before .before .before .before .before .before .before .before .before .before .before .before .before .before .before .before .before .before .before .before .before .before .before .before .before .pre in
-    ((omega (arith, v .at, v .sized .last), omega (arith, v .room, v .sized .last)), omega (arith, v .room, v .sized .prev))
+    let v = c .before .before .before .before .before .before .before .before .before .before .before .before .before .before .before .before .before .before .before .before .before .before .before .before .before .before .before .before .pre in
+    ((omega (arith, v .at, v .sized .links .last), omega (arith, v .room, v .sized .links .last)), (omega (arith, v .room, v .sized .links .prev), omega (arith, v .room, v .sized .links .next)))
 
 -- the places after the calls
-abbrev stored : tie.After-slice-known12 → tie.After-store-row
-stored c = c .before .before .before .before .before .before .before .before .before .before .before .before .before .before .before .before .before
+abbrev stored : tie.After-slice-known14 → tie.After-store-row
+stored c = c .before .before .before .before .before .before .before .before .before .before .before .before .before .before .before .before .before .before .before .before
 
-abbrev appended : tie.After-slice-known12 → tie.After-append-child
-appended c = c .before .before .before .before
+abbrev appended : tie.After-slice-known14 → tie.After-append-child
+appended c = c .before .before .before .before .before .before
 
 same-length : tie.Need-same-length
 same-length c = stored c .store-row .kept .0
@@ -42,6 +42,9 @@ same-length-7 c = appended c .append-child .kept .0
 same-length-8 : tie.Need-same-length-8
 same-length-8 c = appended c .append-child .kept .1 .0
 
+same-length-9 : tie.Need-same-length-9
+same-length-9 c = appended c .append-child .kept .1 .1 .0
+
 returns : tie.Need-returns
 returns c = record { rows = stored c .store-row .ensures; links = appended c .append-child .ensures }
 
@@ -59,4 +62,5 @@ attach-spec =
     same-length-6
     same-length-7
     same-length-8
+    same-length-9
     returns)

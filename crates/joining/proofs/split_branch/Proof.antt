@@ -3,21 +3,21 @@ use borrow.Author.Needs.{needs}
 use Rattle.joining.proofs.split_branch.Statement.{statement}
 use Rattle.joining.proofs.split_branch.Tie as tie
 
-add-t15 : tie.Need-add-t15
-add-t15 c = search needs
+add-t16 : tie.Need-add-t16
+add-t16 c = search needs
 
 store-split-requires : tie.Need-store-split-requires
-store-split-requires c κs = c .before .before .before .before .before .before .before .before .before .before .before .before .before .pre .rows
+store-split-requires c κs = c .before .before .before .before .before .before .before .before .before .before .before .before .before .before .pre .rows
 
 splice-requires : tie.Need-splice-requires
-splice-requires c κs = c .before .before .before .before .before .before .before .before .before .before .before .before .before .before .before .before .before .before .before .before .before .before .before .before .before .before .pre .links
+splice-requires c κs = c .before .before .before .before .before .before .before .before .before .before .before .before .before .before .before .before .before .before .before .before .before .before .before .before .before .before .before .before .pre .links
 
 -- the places after the calls
-abbrev stored : tie.After-slice-known12 → tie.After-store-split
-stored c = c .before .before .before .before .before .before .before .before .before .before .before .before .before .before .before .before .before
+abbrev stored : tie.After-slice-known14 → tie.After-store-split
+stored c = c .before .before .before .before .before .before .before .before .before .before .before .before .before .before .before .before .before .before .before .before
 
-abbrev spliced : tie.After-slice-known12 → tie.After-splice
-spliced c = c .before .before .before .before
+abbrev spliced : tie.After-slice-known14 → tie.After-splice
+spliced c = c .before .before .before .before .before .before
 
 same-length : tie.Need-same-length
 same-length c = stored c .store-split .kept .0
@@ -43,6 +43,9 @@ same-length-7 c = spliced c .splice .kept .0
 same-length-8 : tie.Need-same-length-8
 same-length-8 c = spliced c .splice .kept .1 .0
 
+same-length-9 : tie.Need-same-length-9
+same-length-9 c = spliced c .splice .kept .1 .1 .0
+
 returns : tie.Need-returns
 returns c = record { rows = stored c .store-split .ensures; links = spliced c .splice .ensures }
 
@@ -50,7 +53,7 @@ pub split-branch-spec : {M : Type 1} → statement M
 split-branch-spec =
     tie.close
     (tie.spec
-    add-t15
+    add-t16
     store-split-requires
     splice-requires
     same-length
@@ -61,4 +64,5 @@ split-branch-spec =
     same-length-6
     same-length-7
     same-length-8
+    same-length-9
     returns)

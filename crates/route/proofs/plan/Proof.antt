@@ -40,29 +40,30 @@ slice-aggregate-route-sorted-7 c = search needs
 slice-aggregate-route-sorted-8 : tie.Need-slice-aggregate-route-sorted-8
 slice-aggregate-route-sorted-8 c = search needs
 
+slice-aggregate-route-sorted-9 : tie.Need-slice-aggregate-route-sorted-9
+slice-aggregate-route-sorted-9 c = search needs
+
 route-sorted-requires : tie.Need-route-sorted-requires
 route-sorted-requires c κs =
-    let s = c .before .before .before .before .before .before .before .before .before .before .before .before .before .before .before .before .before .before .before .before in
-    routable (s .args .ks .now) _ _ _ (s .args .mode) (s .pre) _ _ (c .before .before .before .before .before .before .before .before .before .before .before .before .before .before .sort .ensures) _ (c .before .before .before .before .before .before .before .before .before .before .before .before .before .before .before .before .before .farthest .ensures) _ (c .before .before .before .before .before .before .before .before .before .before .before .choose .ensures) _
+    let s = c .before .before .before .before .before .before .before .before .before .before .before .before .before .before .before .before .before .before .before .before .before in
+    routable (s .args .ks .now) _ _ _ (s .args .mode) (s .pre) _ _ (c .before .before .before .before .before .before .before .before .before .before .before .before .before .before .before .sort .ensures) _ (c .before .before .before .before .before .before .before .before .before .before .before .before .before .before .before .before .before .before .farthest .ensures) _ (c .before .before .before .before .before .before .before .before .before .before .before .before .choose .ensures) _
     (record {
       rows = record { xs = refl; ys = refl; path = refl; parent = refl; kind = refl; number = refl };
-      last = refl;
-      prev = refl;
-      few = omega arith;
+      links = record { last = refl; prev = refl; next = refl; few = omega arith };
     }) (omega arith)
 
 same-length : tie.Need-same-length
-same-length c = search needs
+same-length c = c .before .before .before .before .before .before .before .before .before .before .before .before .before .before .before .before .before .before .before .before .before .before .before .before .before .before .sort .kept .0
 
 same-length-2 : tie.Need-same-length-2
-same-length-2 c = search needs
+same-length-2 c = c .before .before .before .before .before .before .before .before .before .before .before .before .before .before .before .before .before .before .before .before .before .before .before .before .before .before .sort .kept .1 .0
 
 returns : tie.Need-returns
 returns c =
-    let s = c .before .before .before .before .before .before .before .before .before .before .before .before .before .before .before .before .before .before .before .before .before .before .before .before .before .before .before .before .before .before in
-    let f : In32 (c .before .before .before .before .before .before .before .before .before .before .before .before .before .before .before .before .before .before .before .before .before .choose .result .query .allowed) = search needs in
-    planned (s .args .ks .now) _ _ _ (s .args .mode) (s .pre) _ _ (c .before .before .before .before .before .before .before .before .before .before .before .before .before .before .before .before .before .before .before .before .before .before .before .before .sort .ensures) _ (c .before .before .before .before .before .before .before .before .before .before .before .before .before .before .before .before .before .before .before .before .before .before .before .before .before .before .before .farthest .ensures) _ (c .before .before .before .before .before .before .before .before .before .before .before .before .before .before .before .before .before .before .before .before .before .choose .ensures) _
-    (c .before .before .before .before .before .before .before .before .before .route-sorted .ensures) (c .before .before .before .before .before .before .before .before .before .route-sorted .kept .0) refl (home f) refl
+    let s = c .before .before .before .before .before .before .before .before .before .before .before .before .before .before .before .before .before .before .before .before .before .before .before .before .before .before .before .before .before .before .before .before in
+    let f : In32 (c .before .before .before .before .before .before .before .before .before .before .before .before .before .before .before .before .before .before .before .before .before .before .before .choose .result .query .allowed) = search needs in
+    planned (s .args .ks .now) _ _ _ (s .args .mode) (s .pre) _ _ (c .before .before .before .before .before .before .before .before .before .before .before .before .before .before .before .before .before .before .before .before .before .before .before .before .before .before .sort .ensures) _ (c .before .before .before .before .before .before .before .before .before .before .before .before .before .before .before .before .before .before .before .before .before .before .before .before .before .before .before .before .before .farthest .ensures) _ (c .before .before .before .before .before .before .before .before .before .before .before .before .before .before .before .before .before .before .before .before .before .before .before .choose .ensures) _
+    (c .before .before .before .before .before .before .before .before .before .before .route-sorted .ensures) (c .before .before .before .before .before .before .before .before .before .before .route-sorted .kept .0) refl (home f) refl
 
 pub plan-spec : {M : Type 1} → statement M
 plan-spec =
@@ -79,6 +80,7 @@ plan-spec =
     slice-aggregate-route-sorted-6
     slice-aggregate-route-sorted-7
     slice-aggregate-route-sorted-8
+    slice-aggregate-route-sorted-9
     route-sorted-requires
     same-length
     same-length-2

@@ -3,12 +3,14 @@ use Prim.Native.Nat.{_≤_, _-_}
 use mathlib.Core.Path.{refl}
 use native.Mathlib.Omega.{arith}
 use lib.ListN.{length}
+use Rattle.geometry.specs.declared.Rectangle.{Rectangle}
+use Rattle.search.specs.Branch.{stopsBy}
 use Rattle.search.proofs.Keepouts.{Scan, scan-hit, scan-next, scan-ends}
 use Rattle.search.proofs.blocked.Statement.{statement}
 use Rattle.search.proofs.blocked.Tie as tie
 
 abbrev Inv-loop : tie.InvT-loop
-Inv-loop ks n a b c i₀ i = (i ≤ length ks) × Scan ks n a b c i
+Inv-loop ks n a b c i₀ i = (i ≤ length ks) × Scan (λ (k : Rectangle). stopsBy k n a b c) ks i
 
 abbrev μ-loop : tie.MeasureT-loop
 μ-loop ks n a b c i₀ i = length ks - i
@@ -26,7 +28,7 @@ stops-requires : tie.Need-stops-requires Inv-loop μ-loop
 stops-requires c κs = tt
 
 returns : tie.Need-returns Inv-loop μ-loop
-returns c = scan-hit _ _ _ _ _ _ (c .before .before .before .before .loop .inv .1) (c .before .before .before .loop-test .taken) _ _ (c .before .before .keepout-at .ensures) (c .before .stops .ensures) (c .if1 .taken)
+returns c = scan-hit _ _ _ (c .before .before .before .before .loop .inv .1) (c .before .before .before .loop-test .taken) _ _ (c .before .before .keepout-at .ensures) (c .before .stops .ensures) (c .if1 .taken)
 
 add-i : tie.Need-add-i Inv-loop μ-loop
 add-i c = omega arith
@@ -35,10 +37,10 @@ loop-less : tie.Need-loop-less Inv-loop μ-loop
 loop-less c = omega arith
 
 loop-again : tie.Need-loop-again Inv-loop μ-loop
-loop-again c = (omega arith, scan-next _ _ _ _ _ _ (c .before .before .before .before .loop .inv .1) (c .before .before .before .loop-test .taken) _ _ (c .before .before .keepout-at .ensures) (c .before .stops .ensures) (c .if1 .left))
+loop-again c = (omega arith, scan-next _ _ _ (c .before .before .before .before .loop .inv .1) (c .before .before .before .loop-test .taken) _ _ (c .before .before .keepout-at .ensures) (c .before .stops .ensures) (c .if1 .left))
 
 returns-2 : tie.Need-returns-2 Inv-loop μ-loop
-returns-2 c = scan-ends _ _ _ _ _ _ (c .before .loop .inv .1) (c .loop-test .left)
+returns-2 c = scan-ends _ _ _ (c .before .loop .inv .1) (c .loop-test .left)
 
 pub blocked-spec : {M : Type 1} → statement M
 blocked-spec =

@@ -1,0 +1,4 @@
+pub mod Naming
+pub mod Leaf
+pub mod Branch
+pub mod After

@@ -1,0 +1,58 @@
+-- `keepouts::any_invalid`: the keepouts from i on decide as all of them do.
+use Prim.Native.Nat.{_≤_, _-_}
+use mathlib.Core.Path.{refl}
+use native.Mathlib.Omega.{arith}
+use lib.ListN.{length}
+use Rattle.job.specs.Job.{invalidKeepout}
+use Rattle.search.proofs.Keepouts.{Scan, scan-hit, scan-next, scan-ends}
+use Rattle.keepouts.proofs.any_invalid.Statement.{statement}
+use Rattle.keepouts.proofs.any_invalid.Tie as tie
+
+abbrev Inv-loop : tie.InvT-loop
+Inv-loop ks i₀ i = (i ≤ length ks) × Scan invalidKeepout ks i
+
+abbrev μ-loop : tie.MeasureT-loop
+μ-loop ks i₀ i = length ks - i
+
+loop-holds : tie.Need-loop-holds Inv-loop μ-loop
+loop-holds c = (omega arith, refl)
+
+add-loop : tie.Need-add-loop Inv-loop μ-loop
+add-loop c = omega arith
+
+keepout-at-requires : tie.Need-keepout-at-requires Inv-loop μ-loop
+keepout-at-requires c κs = omega arith
+
+invalid-keepout-requires : tie.Need-invalid-keepout-requires Inv-loop μ-loop
+invalid-keepout-requires c κs = tt
+
+returns : tie.Need-returns Inv-loop μ-loop
+returns c = scan-hit _ _ _ (c .before .before .before .before .loop .inv .1) (c .before .before .before .loop-test .taken) _ _ (c .before .before .keepout-at .ensures) (c .before .invalid-keepout .ensures) (c .if1 .taken)
+
+add-i : tie.Need-add-i Inv-loop μ-loop
+add-i c = omega arith
+
+loop-less : tie.Need-loop-less Inv-loop μ-loop
+loop-less c = omega arith
+
+loop-again : tie.Need-loop-again Inv-loop μ-loop
+loop-again c = (omega arith, scan-next _ _ _ (c .before .before .before .before .loop .inv .1) (c .before .before .before .loop-test .taken) _ _ (c .before .before .keepout-at .ensures) (c .before .invalid-keepout .ensures) (c .if1 .left))
+
+returns-2 : tie.Need-returns-2 Inv-loop μ-loop
+returns-2 c = scan-ends _ _ _ (c .before .loop .inv .1) (c .loop-test .left)
+
+pub any-invalid-spec : {M : Type 1} → statement M
+any-invalid-spec =
+    tie.close
+    (tie.spec
+    Inv-loop
+    μ-loop
+    loop-holds
+    add-loop
+    keepout-at-requires
+    invalid-keepout-requires
+    returns
+    add-i
+    loop-less
+    loop-again
+    returns-2)

@@ -1,0 +1,4 @@
+pub mod Closing
+pub mod Removing
+pub mod Tidying
+pub mod Passing
