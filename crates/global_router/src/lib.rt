@@ -439,19 +439,17 @@ fn finish(g: GlobalRoutingTree, e: Edit) -> Edited
     requires { ⌜ Stored g × Tabled (e .table) ⌝ }
     ensures { λ r. ⌜ Finished g e r ⌝ }
 {
+    let after = from_table(e.table);
     let answer = e.answer;
     match answer {
         editing::Answer::Refused(n) => Edited {
             answer: editing::Answer::Refused(n),
             tree: g,
         },
-        editing::Answer::Inserted(name) => {
-            let t = from_table(e.table);
-            Edited {
-                answer: editing::Answer::Inserted(name),
-                tree: t,
-            }
-        }
+        editing::Answer::Inserted(name) => Edited {
+            answer: editing::Answer::Inserted(name),
+            tree: after,
+        },
     }
 }
 
