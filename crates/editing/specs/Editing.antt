@@ -1,4 +1,4 @@
--- What the edits of a tree in columns answer, and what the steps of an edit ask and show.
+-- What the edits of a tree in columns answer.
 use Prim.Native.Nat.{ℕ, _+_}
 use mathlib.Core.Path.{_≡_}
 use mathlib.Core.Bool.{Bool, _||_}

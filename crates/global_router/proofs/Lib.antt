@@ -6,3 +6,4 @@ pub mod Lending
 pub mod Answering
 pub mod Reading
 pub mod Finishing
+pub mod Gathered

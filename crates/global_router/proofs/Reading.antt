@@ -19,7 +19,8 @@ use Rattle.nodes.specs.declared.Table.{Table}
 use Rattle.nodes.specs.Nodes.{lookupOf}
 use Rattle.nodes.specs.Table.{tableColumns, tableTree, Tabled}
 use Rattle.nodes.proofs.Naming.{found-low}
-use Rattle.global_router.specs.Reading.{nodeNamed, PathFrom, PathAnswers}
+use Rattle.editing.specs.Edits.{nodeNamed}
+use Rattle.global_router.specs.Reading.{PathFrom, PathAnswers}
 
 pub stands : (t : Table) → Tabled t → Stands (tableColumns t) (t .counts .nodes)
 stands t v =

@@ -1,5 +1,9 @@
 -- What the calls that edit a tree answer.
 use mathlib.Core.Path.{_≡_}
+use mathlib.Core.List.{List}
+use Rattle.geometry.specs.declared.Rectangle.{Rectangle}
+use Rattle.rectangles.specs.declared.Flat.{Flat}
+use Rattle.rectangles.specs.Rectangles.{Gathers}
 use Rattle.nodes.specs.Table.{tableTree}
 use Rattle.editing.specs.declared.Edit as E
 use Rattle.editing.specs.Edits as D
@@ -19,3 +23,7 @@ pub record Finished (g : GlobalRoutingTree) (e : E.Edit) (r : Edited) : Type 0 w
   pub is : editOf (r .answer) (treeOf (r .tree)) ≡ editOf (e .answer) (tableTree (e .table))
   pub kept : Kept (r .answer) g (r .tree)
   pub stored : Stored (r .tree)
+
+-- an edit of g by the rectangles whose numbers are gathered in k
+abbrev pub EditedBy : (List Rectangle → D.Edit) → Flat → GlobalRoutingTree → Edited → Type 0
+EditedBy x k g r = (ks : List Rectangle) → Gathers ks k → EditedTo (x ks) g r

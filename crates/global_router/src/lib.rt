@@ -1,13 +1,15 @@
-// The public crate: a routing tree with private fields, and the calls that make one and read one.
+// The public crate: a routing tree with private fields, and the calls that make one, edit one and read one.
 use editing::Edit;
 use editing::NodeType;
 use editing::ParentName;
 use geometry::Point;
+use geometry::Rectangle;
 use job::ReadAnswer;
 use job::RoutingJob;
 use joining::Counts;
 use nodes::Lookup;
 use nodes::Table;
+use rectangles::Flat;
 use search::Query;
 use tree::NodeName;
 use tree::Parent;
@@ -16,6 +18,7 @@ use tree::SteinerNumber;
 use tree::TerminalNumber;
 use tree_bytes::Figures;
 ghost use mathlib.Core.Path.{_≡_};
+ghost use Prim.Native.Nat.{_≤_};
 ghost use lib.ListN.{replicate};
 ghost use Rattle.geometry.specs.Laws.{Within};
 ghost use Rattle.geometry.specs.Geometry.{origin};
@@ -33,12 +36,13 @@ ghost use Rattle.route.specs.Routing.{refused, treeFor, routeOf};
 ghost use Rattle.route.specs.Demand3.{Owed};
 ghost use Rattle.tree.specs.Optimize.{optimize};
 ghost use Rattle.search.specs.Branch.{keepoutsOf};
-ghost use Rattle.editing.specs.Edits.{insertSteinerNode, insertTerminalNode, insertNodeOnBranch, insertTerminalWithSteiner, insertTerminalWithConstraints};
+ghost use Rattle.rectangles.specs.Rectangles.{room};
+ghost use Rattle.editing.specs.Edits.{nodeNamed, insertSteinerNode, insertTerminalNode, insertNodeOnBranch, insertTerminalWithSteiner, insertTerminalWithConstraints};
 ghost use Rattle.editing.specs.Editing.{parentNameOf, kindIn};
 ghost use Rattle.global_router.specs.Stored.{treeOf, Stored};
 ghost use Rattle.global_router.specs.Calls.{Outcomes, answerOf, newOf, Sound, begun};
-ghost use Rattle.global_router.specs.Editing.{EditedTo, Finished};
-ghost use Rattle.global_router.specs.Reading.{nodeNamed, PathAnswers};
+ghost use Rattle.global_router.specs.Editing.{EditedTo, EditedBy, Finished};
+ghost use Rattle.global_router.specs.Reading.{lookedUp, PathAnswers};
 
 // Children are links: `last` has a node's last child, `prev` and `next` the siblings before and after a node.
 pub struct GlobalRoutingTree {
@@ -92,7 +96,7 @@ fn begin(s: Point) -> GlobalRoutingTree
     }
 }
 
-// A tree that the router left in columns.
+// A tree that stands in columns.
 fn from_table(t: Table) -> GlobalRoutingTree
     requires { ⌜ Tabled t ⌝ }
     ensures is { λ r. ⌜ treeOf r ≡ tableTree t ⌝ }
@@ -286,7 +290,7 @@ impl GlobalRoutingTree {
     // The node that has a name.
     pub fn find_node(self, name: NodeName) -> Lookup
         requires { ⌜ Stored self ⌝ }
-        ensures { λ r. ⌜ lookupOf r ≡ nodeNamed (treeOf self) (nameIn name) ⌝ }
+        ensures { λ r. ⌜ lookedUp (lookupOf r) ≡ lookedUp (nodeNamed (treeOf self) (nameIn name)) ⌝ }
     {
         let t = to_table(self);
         nodes::find_node(t, name)
@@ -531,6 +535,56 @@ impl GlobalRoutingTree {
             allowed: allowed_wirelength,
         };
         insert_by_search(self, query, keepouts)
+    }
+
+    // With the numbers of a list of rectangles by value, so that the calls that are lent the list, which are proved by hand, only gather and pass on.
+    fn insert_with_steiner_gathered(self, point: Point, keepouts: Flat) -> Edited
+        requires { ⌜ Stored self × («keepouts» .count ≤ room) ⌝ }
+        ensures { λ r. ⌜ EditedBy (insertTerminalWithSteiner (treeOf self) «point») «keepouts» self r ⌝ }
+    {
+        let n = 4 * keepouts.count;
+        let bounds = keepouts.bounds;
+        self.insert_terminal_with_steiner_flat(point, &bounds[..n])
+    }
+
+    fn insert_with_constraints_gathered(
+        self,
+        point: Point,
+        allowed_wirelength: i32,
+        keepouts: Flat,
+    ) -> Edited
+        requires { ⌜ Stored self × («keepouts» .count ≤ room) ⌝ }
+        ensures { λ r. ⌜ EditedBy (insertTerminalWithConstraints (treeOf self) «point» «allowed_wirelength») «keepouts» self r ⌝ }
+    {
+        let n = 4 * keepouts.count;
+        let bounds = keepouts.bounds;
+        self.insert_terminal_with_constraints_flat(point, allowed_wirelength, &bounds[..n])
+    }
+
+    // A terminal where the search finds, with the tree's own limit as its allowance. The keepouts are a lent list of rectangle records. A caller that the
+    // borrow checker covers cannot lend one: it has the flat call. Refusals: 5, 2, 6, 10.
+    pub fn insert_terminal_with_steiner(self, point: Point, keepouts: &[Rectangle]) -> Edited
+        requires { ⌜ Stored self ⌝ }
+        ensures { λ r. ⌜ EditedTo (insertTerminalWithSteiner (treeOf self) «point» (now («keepouts» .entry))) self r ⌝ }
+    {
+        self.insert_with_steiner_gathered(point, rectangles::gather(keepouts))
+    }
+
+    // The same with an allowance of one's own.
+    pub fn insert_terminal_with_constraints(
+        self,
+        point: Point,
+        allowed_wirelength: i32,
+        keepouts: &[Rectangle],
+    ) -> Edited
+        requires { ⌜ Stored self ⌝ }
+        ensures { λ r. ⌜ EditedTo (insertTerminalWithConstraints (treeOf self) «point» «allowed_wirelength» (now («keepouts» .entry))) self r ⌝ }
+    {
+        self.insert_with_constraints_gathered(
+            point,
+            allowed_wirelength,
+            rectangles::gather(keepouts),
+        )
     }
 
     // Without its one-child Steiner nodes.

@@ -1,4 +1,4 @@
--- `global_router::GlobalRoutingTree/insert_node_on_branch`: of the tree's columns.
+-- `GlobalRoutingTree::insert_node_on_branch`: of the tree's columns.
 use mathlib.Core.Path.{ap}
 use Rattle.tree.specs.Tree.{Tree}
 use Rattle.tree.specs.Memory.{nameIn}

@@ -1,4 +1,4 @@
--- `global_router::GlobalRoutingTree/insert_steiner_node`: of the tree's columns.
+-- `GlobalRoutingTree::insert_steiner_node`: of the tree's columns.
 use mathlib.Core.Path.{ap}
 use Rattle.tree.specs.Tree.{Tree}
 use Rattle.editing.specs.Edits.{insertSteinerNode}

@@ -1,4 +1,4 @@
--- `global_router::GlobalRoutingTree/insert_terminal_node`: of the tree's columns.
+-- `GlobalRoutingTree::insert_terminal_node`: of the tree's columns.
 use mathlib.Core.Path.{ap}
 use Rattle.tree.specs.Tree.{Tree}
 use Rattle.editing.specs.Edits.{insertTerminalNode}

@@ -1,4 +1,4 @@
--- `global_router::GlobalRoutingTree/insert_terminal_with_constraints_flat`: a search with the tree's limit.
+-- `GlobalRoutingTree::insert_terminal_with_constraints_flat`: a search with the tree's limit.
 use mathlib.Core.Path.{subst}
 use lib.IntN.{ℤ, pos}
 use denote.Ref.{now}

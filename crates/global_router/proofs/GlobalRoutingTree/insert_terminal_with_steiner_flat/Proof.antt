@@ -1,4 +1,4 @@
--- `global_router::GlobalRoutingTree/insert_terminal_with_steiner_flat`: a search with the tree's limit as allowance.
+-- `GlobalRoutingTree::insert_terminal_with_steiner_flat`: a search with the tree's limit as allowance.
 use mathlib.Core.Path.{subst}
 use lib.IntN.{ℤ, pos}
 use denote.Ref.{now}

@@ -1,4 +1,4 @@
--- `global_router::GlobalRoutingTree/optimize_steiner_points`: of the tree's columns.
+-- `GlobalRoutingTree::optimize_steiner_points`: of the tree's columns.
 use mathlib.Core.Path.{ap, _∙_}
 use Rattle.tree.specs.Optimize.{optimize}
 use borrow.Author.Needs.{needs}

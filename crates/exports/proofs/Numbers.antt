@@ -1,0 +1,89 @@
+-- Answers as numbers of 64 bits, and what a routing makes of the calls' answers. A number that fits is read back from its bits as it is.
+use mathlib.Core.Path.{_≡_, refl, sym, ap, subst, _∙_}
+use mathlib.Core.Bool.{Bool, true, false, cond}
+use mathlib.Core.List.{List}
+use Prim.Native.Nat.{ℕ, zero, suc, _≤_, _<_, _^_}
+use native.Mathlib.Omega.{arith}
+use lib.ListN.{length}
+use lib.Dec.{leb}
+use lib.IntN.{ℤ, pos, negsuc, _-ℤ_, +ℤ-idl}
+use borrow.Author.Tests.{leb-true}
+use mir.Syntax.{w64}
+use mir.Val.{SFits, toZ, ofZ}
+use mir.ValLaws.{toZ-pos, toZ-ofZ}
+use Rattle.tree.specs.Tree.{Tree}
+use Rattle.route.specs.Routing.{Routing, refused, routed}
+use Rattle.tree_bytes.specs.TreeBytes.{treeBytes}
+use Rattle.global_router.specs.declared.Answer as G
+use Rattle.global_router.specs.declared.Outcome.{Outcome}
+use Rattle.global_router.specs.Stored.{treeOf}
+use Rattle.global_router.specs.Calls.{Outcomes, answerOf}
+use Rattle.output.specs.declared.Answer.{Answer}
+use Rattle.output.specs.declared.Answer.the-variants.{Wrote, Refused}
+use Rattle.output.specs.Answer.{noRoom, Answers}
+use Rattle.output.specs.Answer as O
+use Rattle.exports.specs.Numbers.{minus, numberOf, sizeIn, Writes, BytesOf, Figures, figuresOf, statusOf, figuresAfter}
+
+-- ---- numbers
+pub home64 : {z y : ℤ} → SFits w64 z → z ≡ y → toZ w64 (ofZ w64 z) ≡ y
+home64 {z} f e = toZ-ofZ w64 z f ∙ e
+
+minus-fits : (n : ℕ) → n < 2 ^ 63 → SFits w64 (minus n)
+minus-fits zero h = record { sfits = h }
+minus-fits (suc k) h =
+    let l : k < 2 ^ 63 = omega (arith, h) in
+    record { sfits = l }
+
+module _ {n : ℕ} (h : n < 2 ^ 63) where
+  from-zero : pos 0 -ℤ toZ w64 n ≡ minus n
+  from-zero = ap (λ (z : ℤ). pos 0 -ℤ z) (toZ-pos w64 n h) ∙ +ℤ-idl (minus n)
+
+  pub refusal-fits : SFits w64 (pos 0 -ℤ toZ w64 n)
+  refusal-fits = subst (SFits w64) (sym from-zero) (minus-fits n h)
+
+  pub refusal-is : toZ w64 (ofZ w64 (pos 0 -ℤ toZ w64 n)) ≡ minus n
+  refusal-is = home64 refusal-fits from-zero
+
+-- ---- an answer, and the same as a number
+module _ {answer : Answer} (small : sizeIn answer < 2 ^ 63) {n : ℕ} (e : answer ≡ Wrote n) where
+  below : n < 2 ^ 63
+  below = subst (λ (a : Answer). sizeIn a < 2 ^ 63) e small
+
+  pub wrote-fits : SFits w64 (pos n)
+  wrote-fits = record { sfits = below }
+
+  pub wrote-is : toZ w64 n ≡ numberOf answer
+  wrote-is = toZ-pos w64 n below ∙ sym (ap numberOf e)
+
+module _ {xs out out′ : List ℕ} {r : Answer} (a : Answers xs out r out′) where
+  -- no more was written than the buffer holds, and 11 is a small number
+  pub size-small : length out < 2 ^ 63 → sizeIn r < 2 ^ 63
+  unfolding O.answerOf
+  size-small h = subst (λ (x : Answer). sizeIn x < 2 ^ 63) (sym (a .answer)) (by (leb (length xs) (length out)) refl)
+    where
+      by : (t : Bool) → leb (length xs) (length out) ≡ t → sizeIn (cond t (Wrote (length xs)) (Refused noRoom)) < 2 ^ 63
+      by true e =
+          let l : length xs ≤ length out = leb-true _ _ e in
+          omega (arith, l, h)
+      by false e = omega arith
+
+  pub writes : {z : ℤ} → z ≡ numberOf r → Writes xs out z out′
+  writes e = record { answer = e ∙ ap numberOf (a .answer); content = a .content }
+
+-- ---- a routing, by the outcome of a job
+pub routing-is : {x : Routing} {o : Outcome} → Outcomes x o → {a : G.Answer} → o .answer ≡ a → answerOf a (treeOf (o .tree)) ≡ x
+routing-is {o = o} v e = sym (ap (λ (a : G.Answer). answerOf a (treeOf (o .tree))) e) ∙ v .is
+
+module _ {x : Routing} {n : ℕ} (e : refused n ≡ x) {z : ℤ} (m : z ≡ minus n) where
+  pub bytes-refused : (out : List ℕ) → BytesOf x out z out
+  bytes-refused out = subst (λ (y : Routing). BytesOf y out z out) e (m, refl)
+
+  pub figures-refused : (f : Figures) → (z ≡ statusOf x) × (f ≡ figuresAfter x f)
+  figures-refused f = subst (λ (y : Routing). (z ≡ statusOf y) × (f ≡ figuresAfter y f)) e (m, refl)
+
+module _ {x : Routing} {t : Tree} (e : routed t ≡ x) where
+  pub bytes-routed : {out out′ : List ℕ} {z : ℤ} → Writes (treeBytes t) out z out′ → BytesOf x out z out′
+  bytes-routed {out} {out′} {z} w = subst (λ (y : Routing). BytesOf y out z out′) e w
+
+  pub figures-routed : (f : Figures) {g : Figures} → g ≡ figuresOf t → (pos 0 ≡ statusOf x) × (g ≡ figuresAfter x f)
+  figures-routed f {g} h = subst (λ (y : Routing). (pos 0 ≡ statusOf y) × (g ≡ figuresAfter y f)) e (refl, h)

@@ -1,0 +1,143 @@
+// What the program writes for a job: the tree's text and its figures, or a refusal.
+use global_router::GlobalRoutingTree;
+use output::Answer;
+ghost use mathlib.Core.Path.{_≡_};
+ghost use mathlib.Core.List.{_++_};
+ghost use lib.ListN.{length};
+ghost use Rattle.wire.specs.Puts.{Puts};
+ghost use Rattle.output.specs.Answer.{Answers};
+ghost use Rattle.tree.specs.Tree.{total};
+ghost use Rattle.tree.specs.Measures.{worst};
+ghost use Rattle.global_router.specs.Stored.{treeOf, Stored};
+ghost use Rattle.planning.specs.Output.{mostText, mostOutput, refusalLine, figuresLine, treeOutput, outputOf};
+
+// "the text (buffer 65,536 bytes)"
+const MOST_TEXT: usize = 65536;
+
+fn text_buffer() -> [u8; MOST_TEXT]
+    ensures { λ r. ⌜ mostText ≡ length r ⌝ }
+{
+    [0; MOST_TEXT]
+}
+
+// Room for every output: the text, and the longest line of figures.
+pub const MOST_OUTPUT: usize = 65610;
+
+pub fn output_buffer() -> [u8; MOST_OUTPUT]
+    ensures { λ r. ⌜ mostOutput ≡ length r ⌝ }
+{
+    [0; MOST_OUTPUT]
+}
+
+// ---- the lines
+
+fn put_refusal(out: &mut [u8], at: usize, n: u8) -> usize
+    ensures { λ r. ⌜ Puts (now (out .entry)) at (refusalLine n) (now (out .exit)) r ⌝ }
+{
+    let p1 = output::put_bytes(out, at, b"refused ");
+    let p2 = decimal::put_u32(out, p1, n as u32);
+    output::put_bytes(out, p2, b"\n")
+}
+
+// A, W, L and V of the line of figures.
+struct Figures {
+    allowed: i32,
+    farthest: u32,
+    total: u32,
+    worst: u32,
+}
+
+fn put_figures(out: &mut [u8], at: usize, f: Figures) -> usize
+    ensures { λ r. ⌜ Puts (now (out .entry)) at (figuresLine (f .allowed) (f .farthest) (f .total) (f .worst)) (now (out .exit)) r ⌝ }
+{
+    let p1 = output::put_bytes(out, at, b"allowed ");
+    let p2 = decimal::put_i32(out, p1, f.allowed);
+    let p3 = output::put_bytes(out, p2, b" farthest ");
+    let p4 = decimal::put_u32(out, p3, f.farthest);
+    let p5 = output::put_bytes(out, p4, b" total ");
+    let p6 = decimal::put_u32(out, p5, f.total);
+    let p7 = output::put_bytes(out, p6, b" worst ");
+    let p8 = decimal::put_u32(out, p7, f.worst);
+    output::put_bytes(out, p8, b"\n")
+}
+
+// The text, then the figures.
+fn put_both(out: &mut [u8], at: usize, text: &[u8], f: Figures) -> usize
+    ensures { λ r. ⌜ Puts (now (out .entry)) at (now (text .entry) ++ figuresLine (f .allowed) (f .farthest) (f .total) (f .worst)) (now (out .exit)) r ⌝ }
+{
+    let p = output::put_bytes(out, at, text);
+    put_figures(out, p, f)
+}
+
+// ---- written whole or not at all: measured by the same writer, on a buffer of one byte
+
+fn write_refusal(n: u8, out: &mut [u8]) -> Answer
+    ensures { λ r. ⌜ Answers (refusalLine n) (now (out .entry)) r (now (out .exit)) ⌝ }
+{
+    let mut none = [0u8; 1];
+    let m = put_refusal(&mut none, 0, n);
+    if out.len() < m {
+        return Answer::Refused(output::NO_ROOM);
+    }
+    Answer::Wrote(put_refusal(out, 0, n))
+}
+
+fn write_both(text: &[u8], f: Figures, out: &mut [u8]) -> Answer
+    ensures { λ r. ⌜ Answers (now (text .entry) ++ figuresLine (f .allowed) (f .farthest) (f .total) (f .worst)) (now (out .entry)) r (now (out .exit)) ⌝ }
+{
+    let mut none = [0u8; 1];
+    let m = put_both(&mut none, 0, text, f);
+    if out.len() < m {
+        return Answer::Refused(output::NO_ROOM);
+    }
+    Answer::Wrote(put_both(out, 0, text, f))
+}
+
+// ---- a tree, and a job
+
+fn read_figures(t: GlobalRoutingTree) -> Figures
+    requires { ⌜ Stored t ⌝ }
+    ensures allowed { λ r. ⌜ r .allowed ≡ treeOf t .allowed ⌝ }
+    ensures farthest { λ r. ⌜ r .farthest ≡ treeOf t .farthest ⌝ }
+    ensures total { λ r. ⌜ r .total ≡ total (treeOf t .nodes) ⌝ }
+    ensures worst { λ r. ⌜ r .worst ≡ worst (treeOf t .nodes) ⌝ }
+{
+    let allowed = t.allowed();
+    let farthest = t.farthest();
+    let total = t.calculate_total_wirelength();
+    let worst = t.calculate_worst_wirelength();
+    Figures {
+        allowed: allowed,
+        farthest: farthest,
+        total: total,
+        worst: worst,
+    }
+}
+
+fn write_tree(t: GlobalRoutingTree, out: &mut [u8]) -> Answer
+    requires { ⌜ Stored t ⌝ }
+    ensures { λ r. ⌜ Answers (treeOutput (treeOf t)) (now (out .entry)) r (now (out .exit)) ⌝ }
+{
+    let f = read_figures(t);
+    let mut text = text_buffer();
+    let answer = t.get_tree_structure(&mut text);
+    match answer {
+        Answer::Wrote(m) => write_both(&text[..m], f, out),
+        Answer::Refused(n) => write_refusal(n, out),
+    }
+}
+
+// What the program writes for a job, whole or not at all. Refusal: 11.
+pub fn plan(job: &[u8], out: &mut [u8]) -> Answer
+    ensures { λ r. ⌜ Answers (outputOf (now (job .entry))) (now (out .entry)) r (now (out .exit)) ⌝ }
+{
+    let outcome = global_router::route(job);
+    let answer = outcome.answer;
+    match answer {
+        global_router::Answer::Refused(n) => write_refusal(n, out),
+        global_router::Answer::Done => {
+            let t = outcome.tree;
+            write_tree(t, out)
+        }
+    }
+}

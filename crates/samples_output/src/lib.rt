@@ -1,0 +1,1 @@
+// What the program writes, proved for jobs given as bytes: specs/Samples.antt.
