@@ -9,6 +9,7 @@ mod random;
 mod route;
 mod samples;
 mod script;
+mod survey;
 mod tree;
 
 use std::io::{Read, Write};
@@ -17,7 +18,7 @@ use std::process::ExitCode;
 const USAGE: &str = "usage: oracle job | bytes | script     (standard input to standard output)
        oracle samples
        oracle make-job SEED CASE | make-script SEED CASE
-       oracle replay-jobs SEED CASES | replay-edits SEED CASES
+       oracle replay SEED JOBS SCRIPTS
        oracle compare-jobs SEED CASES PROGRAM DIFFERENCES
        oracle compare-edits SEED CASES PROGRAM DIFFERENCES";
 
@@ -31,32 +32,34 @@ fn answers(script: &[u8]) -> String {
     edits::answers(script).unwrap_or_else(|| "no script\n".to_string())
 }
 
-/// A case for a program of ours to replay: its parts' lengths, then the parts.
+/// A case for `replay`: its length, its parts' lengths, the parts.
 fn put_case(out: &mut Vec<u8>, parts: &[&[u8]]) {
+    let parts_length: usize = parts.iter().map(|part| 4 + part.len()).sum();
+    out.extend((parts_length as u32).to_le_bytes());
     out.extend(parts.iter().flat_map(|part| (part.len() as u32).to_le_bytes()));
     out.extend(parts.concat());
 }
 
-fn replay_jobs((seed, cases): (u64, u64)) -> Vec<u8> {
+/// The paper's cases, and as many of the seed's as make the numbers full: first jobs, then scripts
+/// that the Rust decides to their end. On standard error what they cover.
+fn replay(seed: u64, (job_count, script_count): (u64, u64)) -> Vec<u8> {
+    let generated = (0..).map(|case| make_jobs::job(seed, case));
+    let jobs: Vec<_> = samples::jobs().into_iter().chain(generated).take(job_count as usize).collect();
+    let generated = (0..).map(|case| make_scripts::script(seed, case));
+    let decided = |script: &Vec<u8>| !answers(script).ends_with("no oracle\n");
+    let scripts = samples::scripts().into_iter().chain(generated).filter(decided);
+    let scripts: Vec<_> = scripts.take(script_count as usize).collect();
     let mut out = Vec::new();
-    for case in 0..cases {
-        let job = make_jobs::job(seed, case);
-        let (text, bytes) = route::answer(&job);
-        put_case(&mut out, &[&job, text.as_bytes(), &bytes]);
+    out.extend((jobs.len() as u32).to_le_bytes());
+    out.extend((scripts.len() as u32).to_le_bytes());
+    for job in &jobs {
+        let (text, bytes) = route::answer(job);
+        put_case(&mut out, &[job, text.as_bytes(), &bytes]);
     }
-    out
-}
-
-/// Scripts that the Rust decides to their end.
-fn replay_edits((seed, cases): (u64, u64)) -> Vec<u8> {
-    let mut out = Vec::new();
-    for case in 0..cases {
-        let script = make_scripts::script(seed, case);
-        let answers = answers(&script);
-        if !answers.ends_with("no oracle\n") {
-            put_case(&mut out, &[&script, answers.as_bytes()]);
-        }
+    for script in &scripts {
+        put_case(&mut out, &[script, answers(script).as_bytes()]);
     }
+    eprint!("{}{}", survey::jobs(&jobs), survey::scripts(&scripts));
     out
 }
 
@@ -77,8 +80,9 @@ fn main() -> ExitCode {
             let (seed, case) = numbers(seed, case);
             make_scripts::script(seed, case)
         }
-        ["replay-jobs", seed, cases] => replay_jobs(numbers(seed, cases)),
-        ["replay-edits", seed, cases] => replay_edits(numbers(seed, cases)),
+        ["replay", seed, jobs, scripts] => {
+            replay(seed.parse().expect("a number"), numbers(jobs, scripts))
+        }
         ["compare-jobs", seed, cases, program, kept] => {
             let found = against::compare(numbers(seed, cases), program, kept, make_jobs::job, |job| {
                 route::answer(job).0

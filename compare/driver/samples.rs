@@ -45,58 +45,70 @@ fn sample(multiplier: f64, terminals: &[(i32, i32)], keepouts: &[[i32; 4]]) -> V
     write(2, multiplier.to_bits(), Point::new(0, 0), &points, &rects)
 }
 
-fn checks() -> Vec<(&'static str, bool)> {
-    let is = |job: &[u8], expected: &str| answer(job).0 == expected;
-    let m6 = |tail: &str| format!("{M6_TREE}{tail}");
-    let m6_terminals = [(10, 2), (4, 6)];
-    let row = |count: usize| -> Vec<(i32, i32)> { (0..count as i32).map(|i| (i, 0)).collect() };
+const M6_TERMINALS: [(i32, i32); 2] = [(10, 2), (4, 6)];
+
+/// So many terminals on one line.
+fn row(count: i32) -> Vec<(i32, i32)> {
+    (0..count).map(|i| (i, 0)).collect()
+}
+
+/// What a job of the paper gives: its whole output, a tree of so many nodes, or some tree.
+enum Gives {
+    Output(String),
+    Nodes(usize),
+    Tree,
+}
+
+fn output(text: &str) -> Gives {
+    Gives::Output(text.to_string())
+}
+
+/// The paper's jobs that are run: M6 to M12, then the limits and the keepouts' bounds.
+fn cases() -> Vec<(&'static str, Vec<u8>, Gives)> {
+    let m6 = |figures: &str| output(&format!("{M6_TREE}{figures}\n"));
+    let two = |keepouts: &[[i32; 4]]| sample(1.0, &M6_TERMINALS, keepouts);
+    let m7 = "Source(source, (0, 0))\n  Terminal(terminal_1, (4, 6))\n  Terminal(terminal_2, (10, 2))\n\
+              allowed 12 farthest 12 total 22 worst 12\n";
+    let m10 = "Source(source, (0, 0))\n  Terminal(terminal_1, (0, 5))\n  Terminal(terminal_2, (5, 0))\n    \
+               Terminal(terminal_3, (5, 5))\nallowed 10 farthest 10 total 15 worst 10\n";
+    let m11 = "Source(source, (0, 0))\nallowed 0 farthest 0 total 0 worst 0\n";
+    let m12 = "Source(source, (0, 0))\n  Terminal(terminal_1, (3, 0))\n    Terminal(terminal_2, (3, 0))\n\
+               allowed 3 farthest 3 total 3 worst 3\n";
     vec![
-        ("M6 printed", is(&M6, &m6("allowed 12 farthest 12 total 16 worst 12\n"))),
-        ("M6 as bytes", answer(&M6).1 == M6_BYTES),
-        ("M6 written", sample(1.0, &m6_terminals, &[]) == M6),
-        (
-            "M7",
-            is(
-                &sample(1.0, &m6_terminals, &[[2, 3, 0, 2]]),
-                "Source(source, (0, 0))\n  Terminal(terminal_1, (4, 6))\n  Terminal(terminal_2, (10, 2))\n\
-                 allowed 12 farthest 12 total 22 worst 12\n",
-            ),
-        ),
-        (
-            "M8",
-            is(
-                &sample(1.0, &m6_terminals, &[[2, 3, 0, 1]]),
-                &m6("allowed 12 farthest 12 total 16 worst 12\n"),
-            ),
-        ),
-        ("M9", is(&sample(0.5, &m6_terminals, &[]), &m6("allowed 6 farthest 12 total 16 worst 12\n"))),
-        (
-            "M10",
-            is(
-                &sample(1.0, &[(0, 5), (5, 0), (5, 5)], &[]),
-                "Source(source, (0, 0))\n  Terminal(terminal_1, (0, 5))\n  Terminal(terminal_2, (5, 0))\n    \
-                 Terminal(terminal_3, (5, 5))\nallowed 10 farthest 10 total 15 worst 10\n",
-            ),
-        ),
-        (
-            "M11",
-            is(&sample(1.0, &[], &[]), "Source(source, (0, 0))\nallowed 0 farthest 0 total 0 worst 0\n"),
-        ),
-        (
-            "M12",
-            is(
-                &sample(1.0, &[(3, 0), (3, 0)], &[]),
-                "Source(source, (0, 0))\n  Terminal(terminal_1, (3, 0))\n    Terminal(terminal_2, (3, 0))\n\
-                 allowed 3 farthest 3 total 3 worst 3\n",
-            ),
-        ),
-        ("120 terminals pass", answer(&sample(1.0, &row(120), &[])).1.len() == 24 + 16 * 121),
-        ("121 give 2", is(&sample(1.0, &row(121), &[]), "refused 2\n")),
-        ("1000001 gives 5", is(&sample(1.0, &[(0, 1_000_001)], &[]), "refused 5\n")),
-        ("1000000 passes", !answer(&sample(1.0, &[(0, 1_000_000)], &[])).1.is_empty()),
-        ("equal keepout bounds pass", !answer(&sample(1.0, &m6_terminals, &[[2, 2, 1, 1]])).1.is_empty()),
-        ("reversed bounds give 6", is(&sample(1.0, &m6_terminals, &[[2, 1, 1, 1]]), "refused 6\n")),
+        ("M6 printed", M6.to_vec(), m6("allowed 12 farthest 12 total 16 worst 12")),
+        ("M7", two(&[[2, 3, 0, 2]]), output(m7)),
+        ("M8", two(&[[2, 3, 0, 1]]), m6("allowed 12 farthest 12 total 16 worst 12")),
+        ("M9", sample(0.5, &M6_TERMINALS, &[]), m6("allowed 6 farthest 12 total 16 worst 12")),
+        ("M10", sample(1.0, &[(0, 5), (5, 0), (5, 5)], &[]), output(m10)),
+        ("M11", sample(1.0, &[], &[]), output(m11)),
+        ("M12", sample(1.0, &[(3, 0), (3, 0)], &[]), output(m12)),
+        ("120 terminals pass", sample(1.0, &row(120), &[]), Gives::Nodes(121)),
+        ("121 give 2", sample(1.0, &row(121), &[]), output("refused 2\n")),
+        ("1000001 gives 5", sample(1.0, &[(0, 1_000_001)], &[]), output("refused 5\n")),
+        ("1000000 passes", sample(1.0, &[(0, 1_000_000)], &[]), Gives::Nodes(2)),
+        ("equal keepout bounds pass", two(&[[2, 2, 1, 1]]), Gives::Tree),
+        ("reversed bounds give 6", two(&[[2, 1, 1, 1]]), output("refused 6\n")),
     ]
+}
+
+pub fn jobs() -> Vec<Vec<u8>> {
+    cases().into_iter().map(|(_, job, _)| job).collect()
+}
+
+fn gives(job: &[u8], expected: &Gives) -> bool {
+    let (text, bytes) = answer(job);
+    match expected {
+        Gives::Output(output) => text == *output,
+        Gives::Nodes(count) => bytes.len() == 24 + 16 * count,
+        Gives::Tree => !bytes.is_empty(),
+    }
+}
+
+fn checks() -> Vec<(&'static str, bool)> {
+    let mut checks: Vec<_> = cases().iter().map(|(name, job, expected)| (*name, gives(job, expected))).collect();
+    checks.push(("M6 as bytes", answer(&M6).1 == M6_BYTES));
+    checks.push(("M6 written", sample(1.0, &M6_TERMINALS, &[]) == M6));
+    checks
 }
 
 const STEINER_1: Name = Name { kind: 1, number: 1 };
@@ -170,6 +182,18 @@ fn edits_of_full_tree() -> (Vec<Edit>, String) {
     edits.extend([search((5, 5)), search((10, 5)), search((10, 5))]);
     let filled: String = (1..=249).map(|n| format!("ok {n}\n")).collect();
     (edits, filled + "refused 10\nok 250\nrefused 10\n")
+}
+
+/// The scripts below, as far as the Rust decides them.
+pub fn scripts() -> Vec<Vec<u8>> {
+    let by_hand = |x| Start::ByHand(Point::new(0, x));
+    let (mut of_m6, _) = edits_of_m6();
+    of_m6.pop();
+    vec![
+        script::write(&Start::Routed(M6.to_vec()), &of_m6),
+        script::write(&by_hand(0), &edits_of_full_tree().0),
+        script::write(&by_hand(-1_000_001), &[]),
+    ]
 }
 
 fn edit_checks() -> Vec<(&'static str, bool)> {

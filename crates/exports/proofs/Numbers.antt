@@ -2,10 +2,10 @@
 use mathlib.Core.Path.{_≡_, refl, sym, ap, subst, _∙_}
 use mathlib.Core.Bool.{Bool, true, false, cond}
 use mathlib.Core.List.{List}
-use Prim.Native.Nat.{ℕ, zero, suc, _≤_, _<_, _^_}
+use Prim.Native.Nat.{ℕ, zero, suc, _+_, _-_, _≤_, _<_, _^_}
 use native.Mathlib.Omega.{arith}
 use lib.ListN.{length}
-use lib.Dec.{leb}
+use lib.Dec.{T, leb, ltb, ltb→lt}
 use lib.IntN.{ℤ, pos, negsuc, _-ℤ_, +ℤ-idl}
 use borrow.Author.Tests.{leb-true}
 use mir.Syntax.{w64}
@@ -28,21 +28,30 @@ use Rattle.exports.specs.Numbers.{minus, numberOf, sizeIn, Writes, Bytes
 pub home64 : {z y : ℤ} → SFits w64 z → z ≡ y → toZ w64 (ofZ w64 z) ≡ y
 home64 {z} f e = toZ-ofZ w64 z f ∙ e
 
-minus-fits : (n : ℕ) → n < 2 ^ 63 → SFits w64 (minus n)
-minus-fits zero h = record { sfits = h }
-minus-fits (suc k) h =
-    let l : k < 2 ^ 63 = omega (arith, h) in
-    record { sfits = l }
+less-fits : (k n : ℕ) → k < 2 ^ 63 → n < 2 ^ 63 → SFits w64 (pos k -ℤ pos n)
+less-fits k zero h l =
+    let s : k + zero < 2 ^ 63 = omega (arith, h) in
+    record { sfits = s }
+less-fits k (suc j) h l = by (ltb k (suc j))
+  where
+    by : (t : Bool) → SFits w64 (cond t (negsuc (suc j - suc k)) (pos (k - suc j)))
+    by true =
+        let s : suc j - suc k < 2 ^ 63 = omega (arith, l) in
+        record { sfits = s }
+    by false =
+        let s : k - suc j < 2 ^ 63 = omega (arith, h) in
+        record { sfits = s }
 
 module _ {n : ℕ} (h : n < 2 ^ 63) where
-  from-zero : pos 0 -ℤ toZ w64 n ≡ minus n
-  from-zero = ap (λ (z : ℤ). pos 0 -ℤ z) (toZ-pos w64 n h) ∙ +ℤ-idl (minus n)
+  bits : toZ w64 n ≡ pos n
+  bits = toZ-pos w64 n h
 
-  pub refusal-fits : SFits w64 (pos 0 -ℤ toZ w64 n)
-  refusal-fits = subst (SFits w64) (sym from-zero) (minus-fits n h)
+  -- a number of 63 bits less another, whatever the first is
+  pub sub-fits : (k : ℕ) → T (ltb k (2 ^ 63)) → SFits w64 (pos k -ℤ toZ w64 n)
+  sub-fits k l = subst (λ (z : ℤ). SFits w64 (pos k -ℤ z)) (sym bits) (less-fits k n (ltb→lt k (2 ^ 63) l) h)
 
   pub refusal-is : toZ w64 (ofZ w64 (pos 0 -ℤ toZ w64 n)) ≡ minus n
-  refusal-is = home64 refusal-fits from-zero
+  refusal-is = home64 (sub-fits 0 tt) (ap (λ (z : ℤ). pos 0 -ℤ z) bits ∙ +ℤ-idl (minus n))
 
 -- ---- an answer, and the same as a number
 module _ {answer : Answer} (small : sizeIn answer < 2 ^ 63) {n : ℕ} (e : answer ≡ Wrote n) where

@@ -1,14 +1,11 @@
 // C calls of the router: a job's bytes to its text, its tree bytes or its figures. bindings/ has the C header and a Rust crate over these.
 // A slice is a pointer and a length to C. An answer is a number: what was written, or minus the number of a refusal.
-use global_router::GlobalRoutingTree;
 use output::Answer;
 ghost use mathlib.Core.Path.{_≡_};
 ghost use Prim.Native.Nat.{_<_, _^_};
-ghost use Rattle.output.specs.Answer.{Answers};
 ghost use Rattle.route.specs.Routing.{routeOf};
 ghost use Rattle.planning.specs.Output.{outputOf};
-ghost use Rattle.global_router.specs.Stored.{treeOf, Stored};
-ghost use Rattle.exports.specs.Numbers.{minus, sizeIn, numberOf, Writes, BytesOf, figures, figuresOf, statusOf, figuresAfter};
+ghost use Rattle.exports.specs.Numbers.{minus, sizeIn, numberOf, Writes, BytesOf, figures, statusOf, figuresAfter};
 
 // ---- answers as numbers
 

@@ -31,7 +31,7 @@ pub fn output_buffer() -> [u8; MOST_OUTPUT]
 
 // ---- the lines
 
-fn put_refusal(out: &mut [u8], at: usize, n: u8) -> usize
+pub fn put_refusal(out: &mut [u8], at: usize, n: u8) -> usize
     ensures { λ r. ⌜ Puts (now (out .entry)) at (refusalLine n) (now (out .exit)) r ⌝ }
 {
     let p1 = output::put_bytes(out, at, b"refused ");
@@ -40,14 +40,14 @@ fn put_refusal(out: &mut [u8], at: usize, n: u8) -> usize
 }
 
 // A, W, L and V of the line of figures.
-struct Figures {
-    allowed: i32,
-    farthest: u32,
-    total: u32,
-    worst: u32,
+pub struct Figures {
+    pub allowed: i32,
+    pub farthest: u32,
+    pub total: u32,
+    pub worst: u32,
 }
 
-fn put_figures(out: &mut [u8], at: usize, f: Figures) -> usize
+pub fn put_figures(out: &mut [u8], at: usize, f: Figures) -> usize
     ensures { λ r. ⌜ Puts (now (out .entry)) at (figuresLine (f .allowed) (f .farthest) (f .total) (f .worst)) (now (out .exit)) r ⌝ }
 {
     let p1 = output::put_bytes(out, at, b"allowed ");
@@ -95,7 +95,7 @@ fn write_both(text: &[u8], f: Figures, out: &mut [u8]) -> Answer
 
 // ---- a tree, and a job
 
-fn read_figures(t: GlobalRoutingTree) -> Figures
+pub fn read_figures(t: GlobalRoutingTree) -> Figures
     requires { ⌜ Stored t ⌝ }
     ensures allowed { λ r. ⌜ r .allowed ≡ treeOf t .allowed ⌝ }
     ensures farthest { λ r. ⌜ r .farthest ≡ treeOf t .farthest ⌝ }

@@ -1,7 +1,7 @@
 -- `refusal`: zero less a byte is minus the byte.
 use Prim.Native.Nat.{_<_, _^_}
 use native.Mathlib.Omega.{arith}
-use Rattle.exports.proofs.Numbers.{refusal-fits, refusal-is}
+use Rattle.exports.proofs.Numbers.{sub-fits, refusal-is}
 use borrow.Author.Needs.{needs}
 use Rattle.exports.proofs.refusal.Statement.{statement}
 use Rattle.exports.proofs.refusal.Tie as tie
@@ -13,7 +13,7 @@ cast-result : tie.Need-cast-result
 cast-result c = search needs
 
 sub-result : tie.Need-sub-result
-sub-result c = refusal-fits (low c)
+sub-result c = sub-fits (low c) _ tt
 
 returns : tie.Need-returns
 returns c = refusal-is (low c)

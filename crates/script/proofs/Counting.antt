@@ -1,0 +1,10 @@
+-- A number within a list counts its first elements.
+use Prim.Native.Nat.{ℕ, _≤_}
+use mathlib.Core.Path.{sym}
+use mathlib.Core.List.{List}
+use lib.ListN.{length}
+use lib.Seq.{length-take-le}
+use Rattle.script.specs.Runs.{Counts}
+
+pub counts : {n : ℕ} (l : List ℕ) → n ≤ length l → Counts n l
+counts l h = (h, sym (length-take-le _ l h))

@@ -1,0 +1,34 @@
+-- What running a script keeps. Definitions only.
+use Prim.Native.Nat.{ℕ, _≤_}
+use mathlib.Core.Path.{_≡_}
+use mathlib.Core.List.{List}
+use lib.ListN.{length, take}
+use Rattle.global_router.specs.Stored.{Stored}
+use Rattle.script.specs.declared.Progress.{Progress}
+
+-- the largest buffers that a call is lent: bytes of text, tree bytes, indices
+abbrev pub mostText : ℕ
+mostText = 65536
+
+abbrev pub mostBytes : ℕ
+mostBytes = 4024
+
+abbrev pub mostListed : ℕ
+mostListed = 250
+
+-- the numbers of 255 keepouts
+abbrev pub mostNumbers : ℕ
+mostNumbers = 1020
+
+-- a text and its line
+abbrev pub mostAnswer : ℕ
+mostAnswer = 65552
+
+-- the first n of a list are there
+abbrev pub Counts : ℕ → List ℕ → Type 0
+Counts n l = (n ≤ length l) × (n ≡ length (take n l))
+
+-- the tree is one that the calls give, and the answer lies at the buffer's start
+pub record Runs (out : List ℕ) (r : Progress) : Type 0 where
+  pub stored : Stored (r .tree)
+  pub fits : Counts (r .written) out
