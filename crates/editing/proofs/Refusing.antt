@@ -45,7 +45,7 @@ use Rattle.editing.specs.declared.NodeType.{NodeType}
 use Rattle.editing.specs.Edits as D
 use Rattle.editing.specs.Edits.{refused, inserted, atNode, full, passes, newNames, isChildOf, nodeNamed, parentNode, spliceKind, joinFound}
 use Rattle.table_steps.specs.Steps.{Stepped, steinerIn, newNumber, Room}
-use Rattle.editing.specs.Editing.{parentNameOf, kindIn, Edits, noRoom}
+use Rattle.editing.specs.Editing.{parentNameOf, kindIn, Edits, overfull}
 
 -- ---- tests
 module _ {t : Table} {r : Edit} (n : ℕ) (x : D.Edit) where
@@ -129,15 +129,15 @@ of-kind {t} {r} q p c e v = subst (λ (k : NodeType). Edits (spliceKind (kindIn 
 -- ---- room
 -- the code's tests
 module _ (n more number : ℕ) {w : ℕ} (e : w ≡ n + more) where
-  pub over : mostNodes < w → true ≡ noRoom n more number
+  pub over : mostNodes < w → true ≡ overfull n more number
   over h = sym (rw (lt-ltb mostNodes (n + more) (omega (arith, h, e))) refl)
 
-  pub under : w ≤ mostNodes → {v : ℕ} → v ≡ number → ltb mostNodes v ≡ noRoom n more number
+  pub under : w ≤ mostNodes → {v : ℕ} → v ≡ number → ltb mostNodes v ≡ overfull n more number
   under h d = sym (rw (le-ltb mostNodes (n + more) (omega (arith, h, e))) (ap (ltb mostNodes) (sym d)))
 
-no-room-is : (n : ℕ) (names : List Name) (more number : ℕ) → length names ≡ more → anyOf passes names ≡ ltb mostNodes number → full n names ≡ noRoom n more number
+overfull-is : (n : ℕ) (names : List Name) (more number : ℕ) → length names ≡ more → anyOf passes names ≡ ltb mostNodes number → full n names ≡ overfull n more number
 unfolding full
-no-room-is n names more number el ep = λ i. ltb mostNodes (n + el i) || ep i
+overfull-is n names more number el ep = λ i. ltb mostNodes (n + el i) || ep i
 
 or-false : (b : Bool) → (b || false) ≡ b
 or-false true = refl
@@ -150,8 +150,8 @@ number-passes (steiner k) = or-false (ltb mostNodes k)
 number-passes (terminal k) = refl
 
 -- refusal 10 of one node
-pub full-one : (t : Table) (n : Name) → noRoom (t .counts .nodes) 1 (steinerIn n) ≡ full (length (tableTree t .nodes)) (n ∷ [])
-full-one t n = sym (no-room-is _ (n ∷ []) 1 (steinerIn n) refl (number-passes n) ∙ (λ i. noRoom (size t i) 1 (steinerIn n)))
+pub full-one : (t : Table) (n : Name) → overfull (t .counts .nodes) 1 (steinerIn n) ≡ full (length (tableTree t .nodes)) (n ∷ [])
+full-one t n = sym (overfull-is _ (n ∷ []) 1 (steinerIn n) refl (number-passes n) ∙ (λ i. overfull (size t i) 1 (steinerIn n)))
 
 -- and of a joining
 join-passes : (t : Table) (j : T.Join) → anyOf passes (newNames (tableTree t) j) ≡ ltb mostNodes (newNumber (t .counts) j)
@@ -163,11 +163,11 @@ join-names : (t : Table) (j : T.Join) → length (newNames (tableTree t) j) ≡ 
 join-names t (T.onto p) = refl
 join-names t (T.split p c) = refl
 
-pub full-join : (t : Table) (j : T.Join) → noRoom (t .counts .nodes) (newNodes j) (newNumber (t .counts) j) ≡ full (length (tableTree t .nodes)) (newNames (tableTree t) j)
-full-join t j = sym (no-room-is _ (newNames (tableTree t) j) (newNodes j) (newNumber (t .counts) j) (join-names t j) (join-passes t j) ∙ (λ i. noRoom (size t i) (newNodes j) (newNumber (t .counts) j)))
+pub full-join : (t : Table) (j : T.Join) → overfull (t .counts .nodes) (newNodes j) (newNumber (t .counts) j) ≡ full (length (tableTree t .nodes)) (newNames (tableTree t) j)
+full-join t j = sym (overfull-is _ (newNames (tableTree t) j) (newNodes j) (newNumber (t .counts) j) (join-names t j) (join-passes t j) ∙ (λ i. overfull (size t i) (newNodes j) (newNumber (t .counts) j)))
 
 -- without refusal 10 there is room
-pub room : (t : Table) (more number : ℕ) → noRoom (t .counts .nodes) more number ≡ false → Room t more number
+pub room : (t : Table) (more number : ℕ) → overfull (t .counts .nodes) more number ≡ false → Room t more number
 room t more number e =
     let h = or-no _ _ e in
     (ltb-false mostNodes (t .counts .nodes + more) (h .0), ltb-false mostNodes number (h .1))

@@ -45,5 +45,5 @@ pub record Edits (x : D.Edit) (t : Table) (r : Edit) : Type 0 where
   pub tabled : Tabled (r .table)
 
 -- 10, of n nodes, how many more there would be, and the new Steiner number, 0 for none
-abbrev pub noRoom : ℕ → ℕ → ℕ → Bool
-noRoom n more number = ltb mostNodes (n + more) || ltb mostNodes number
+abbrev pub overfull : ℕ → ℕ → ℕ → Bool
+overfull n more number = ltb mostNodes (n + more) || ltb mostNodes number

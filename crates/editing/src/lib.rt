@@ -23,7 +23,7 @@ ghost use Rattle.nodes.specs.Nodes.{lookupOf};
 ghost use Rattle.nodes.specs.Table.{tableTree, Tabled};
 ghost use Rattle.editing.specs.Edits.{refused, attachAt, spliceAt, joinFound, parentNode, isChildOf, insertSteinerNode, insertTerminalNode, insertNodeOnBranch, insertTerminalWithConstraints};
 ghost use Rattle.table_steps.specs.Steps.{steinerIn, Addable, newNumber};
-ghost use Rattle.editing.specs.Editing.{parentNameOf, kindIn, Edits, noRoom};
+ghost use Rattle.editing.specs.Editing.{parentNameOf, kindIn, Edits, overfull};
 
 // The parent of a new node, or none named. The Rust's `Option<&str>`.
 pub enum ParentName {
@@ -76,9 +76,9 @@ fn refuse(t: Table, n: u8) -> Edit
 }
 
 // Refusal 10: n nodes and more would be too many, or the new Steiner number too high; 0 stands for none.
-fn no_room(n: u16, more: u16, number: u16) -> bool
+fn overfull(n: u16, more: u16, number: u16) -> bool
     requires { ⌜ (n ≤ mostNodes) × (more ≤ 2) ⌝ }
-    ensures { λ r. ⌜ r ≡ noRoom n more number ⌝ }
+    ensures { λ r. ⌜ r ≡ overfull n more number ⌝ }
 {
     if search::wide(n + more) > tree::MOST_NODES {
         return true;
@@ -151,7 +151,7 @@ fn attach_at(t: Table, name: NodeName, q: Point, p: NodeIndex) -> Edit
     requires { ⌜ p .0 < t .counts .nodes ⌝ }
     ensures { λ r. ⌜ Edits (attachAt (tableTree t) (nameIn name) q (p .0)) t r ⌝ }
 {
-    if no_room(t.counts.nodes, 1, steiner_number(name)) {
+    if overfull(t.counts.nodes, 1, steiner_number(name)) {
         return refuse(t, FULL);
     }
     let grown = table_steps::with_leaf(t, name, q, p);
@@ -170,7 +170,7 @@ fn splice_at(t: Table, name: NodeName, q: Point, p: NodeIndex, c: NodeIndex) -> 
     if !is_child(t, p, c) {
         return refuse(t, NOT_A_CHILD);
     }
-    if no_room(t.counts.nodes, 1, steiner_number(name)) {
+    if overfull(t.counts.nodes, 1, steiner_number(name)) {
         return refuse(t, FULL);
     }
     let grown = table_steps::with_node_between(t, name, q, p, c);
@@ -183,12 +183,12 @@ fn splice_at(t: Table, name: NodeName, q: Point, p: NodeIndex, c: NodeIndex) -> 
 // Refusal 10 of a joining: one node or two.
 fn is_full(k: Counts, j: Join) -> bool
     requires { ⌜ k .nodes ≤ mostNodes ⌝ }
-    ensures { λ r. ⌜ r ≡ noRoom (k .nodes) (newNodes (joinOf j)) (newNumber k (joinOf j)) ⌝ }
+    ensures { λ r. ⌜ r ≡ overfull (k .nodes) (newNodes (joinOf j)) (newNumber k (joinOf j)) ⌝ }
 {
     let n = k.nodes;
     match j {
-        Join::Onto(p) => no_room(n, 1, 0),
-        Join::Split(p, c) => no_room(n, 2, k.steiner.0),
+        Join::Onto(p) => overfull(n, 1, 0),
+        Join::Split(p, c) => overfull(n, 2, k.steiner.0),
     }
 }
 

@@ -27,6 +27,7 @@ ghost use Rattle.tree.specs.Tree.{total};
 ghost use Rattle.tree.specs.Measures.{worst, steinerNodes, terminalNodes};
 ghost use Rattle.tree.specs.Memory.{nameIn};
 ghost use Rattle.job.specs.Reading.{unpacked};
+ghost use Rattle.wire.specs.Puts.{Puts};
 ghost use Rattle.output.specs.Answer.{Answers};
 ghost use Rattle.text.specs.Text.{textOf};
 ghost use Rattle.tree_bytes.specs.TreeBytes.{treeBytes};
@@ -385,6 +386,29 @@ impl GlobalRoutingTree {
             &t.prev,
             n,
             out,
+        )
+    }
+
+    // The text at a place of a buffer: what would stand past the end is left out, and still counts.
+    pub fn put_tree_structure(self, out: &mut [u8], at: usize) -> usize
+        requires { ⌜ Stored self ⌝ }
+        ensures { λ r. ⌜ Puts (now (out .entry)) at (textOf (treeOf self .nodes)) (now (out .exit)) r ⌝ }
+    {
+        let t = to_table(self);
+        let k = t.counts;
+        let n = search::wide(k.nodes);
+        text::put_text(
+            &t.xs,
+            &t.ys,
+            &t.path,
+            &t.parent,
+            &t.kind,
+            &t.number,
+            &t.last,
+            &t.prev,
+            n,
+            out,
+            at,
         )
     }
 

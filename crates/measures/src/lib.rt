@@ -146,15 +146,15 @@ pub fn worst_wirelength<'a>(
 
 // ---- kinds
 
-// Kind 0 is the source, 1 a Steiner node, 2 a terminal.
+// A kind as the paper numbers it; any other number is a terminal's.
 pub fn kind_of(kind: u8) -> u8
     ensures { λ r. ⌜ ((k : ℕ) → r ≡ kindOf (nameFrom kind k)) ⌝ }
 {
-    if kind == 0 {
-        return 0;
+    if kind == tree::SOURCE {
+        return tree::SOURCE;
     }
-    if kind == 1 {
-        return 1;
+    if kind == tree::STEINER {
+        return tree::STEINER;
     }
-    2
+    tree::TERMINAL
 }

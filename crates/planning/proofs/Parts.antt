@@ -1,5 +1,5 @@
--- What an answer of the text's writer tells: where it wrote, the buffer's first bytes are the text; where it refused, the number is 11.
--- And the output that the parts make: a tree's, and a job's.
+-- A buffer's first bytes after what was put there, or after an answer that wrote.
+-- And the output that the parts make: a tree's, by its text in a buffer; and a job's, by the outcome of routing it.
 use mathlib.Core.Path.{_≡_, refl, sym, ap, _∙_}
 use mathlib.Core.Bool.{Bool, true, false, cond}
 use mathlib.Core.List.{List, _++_}
@@ -8,8 +8,10 @@ use native.Mathlib.Omega.{arith}
 use lib.ListN.{length, take, drop, length-append}
 use lib.Seq.{take-append-seam}
 use lib.Dec.{leb}
-use borrow.Author.Tests.{leb-true, leb-false, le-leb, lt-leb}
-use Rattle.tree.specs.Tree.{Tree}
+use borrow.Author.Tests.{le-leb, lt-leb}
+use Rattle.wire.specs.Puts.{Puts, puts-as, puts-then, puts-room, puts-length}
+use Rattle.tree.specs.Tree.{Tree, total}
+use Rattle.tree.specs.Measures.{worst}
 use Rattle.text.specs.Text.{textOf}
 use Rattle.route.specs.Routing.{routeOf}
 use Rattle.global_router.specs.declared.Answer as G
@@ -22,7 +24,20 @@ use Rattle.output.specs.Answer.{noRoom, contentOf, Answers}
 use Rattle.output.specs.Answer as O
 use Rattle.output.specs.declared.Answer.{Answer}
 use Rattle.output.specs.declared.Answer.the-variants.{Wrote, Refused}
-use Rattle.planning.specs.Output.{mostText, refusalLine, figuresOf, treeOutput, outputFor, outputOf}
+use Rattle.planning.specs.Output.{mostText, mostOutput, refusalLine, figuresOf, treeOutput, outputFor, outputOf}
+use Rattle.planning.proofs.Room.{figures-short}
+
+-- out's first n bytes are xs
+pub record Front (xs out : List ℕ) (n : ℕ) : Type 0 where
+  pub low : n ≤ length out
+  pub text : take n out ≡ xs
+
+-- of what was put there
+put-front : {xs out out′ : List ℕ} {n : ℕ} → Puts out 0 xs out′ n → length xs ≤ length out → Front xs out′ n
+put-front {xs} {out} {out′} {n} p h =
+    let w = puts-room p (omega arith) in
+    let e : n ≡ length xs = omega (arith, w .1) in
+    record { low = omega (arith, e, puts-length p); text = (λ i. take (e i) (w .0 i)) ∙ take-append-seam xs (drop (0 + length xs) out) }
 
 -- the number in an answer, and whether it wrote
 abbrev numberIn : Answer → ℕ
@@ -33,57 +48,37 @@ abbrev wrote : Answer → ℕ
 wrote (Wrote m) = 1
 wrote (Refused n) = 0
 
-pub record Front (xs out out′ : List ℕ) (m : ℕ) : Type 0 where
-  pub room : length xs ≤ length out
-  pub low : m ≤ length out′
-  pub text : take m out′ ≡ xs
+-- of an answer that wrote
+pub front : {xs out out′ : List ℕ} {r : Answer} → Answers xs out r out′ → {m : ℕ} → r ≡ Wrote m → Front xs out′ m
+unfolding O.answerOf contentOf
+front {xs} {out} {out′} a {m} e = by (leb (length xs) (length out)) refl
+  where
+    by : (t : Bool) → leb (length xs) (length out) ≡ t → Front xs out′ m
+    by true h =
+        let n : m ≡ length xs = ap numberIn (sym e ∙ a .answer ∙ (λ i. cond (h i) (Wrote (length xs)) (Refused noRoom))) in
+        let c : out′ ≡ xs ++ drop (length xs) out = a .content ∙ (λ i. cond (h i) (xs ++ drop (length xs) out) out) in
+        let l : length out′ ≡ length xs + length (drop (length xs) out) = ap length c ∙ length-append xs (drop (length xs) out) in
+        record { low = omega (arith, n, l); text = (λ i. take (n i) (c i)) ∙ take-append-seam xs (drop (length xs) out) }
+    by false h =
+        let z : _≡_ {A = ℕ} 1 0 = ap wrote (sym e ∙ a .answer ∙ (λ i. cond (h i) (Wrote (length xs)) (Refused noRoom))) in
+        absurd (omega arith)
 
-pub record Back (xs out : List ℕ) (n : ℕ) : Type 0 where
-  pub none : length out < length xs
-  pub number : n ≡ noRoom
-
-module _ {xs out out′ : List ℕ} {r : Answer} (a : Answers xs out r out′) where
-  pub front : {m : ℕ} → r ≡ Wrote m → Front xs out out′ m
-  unfolding O.answerOf contentOf
-  front {m} e = by (leb (length xs) (length out)) refl
-    where
-      by : (t : Bool) → leb (length xs) (length out) ≡ t → Front xs out out′ m
-      by true h =
-          let n : m ≡ length xs = ap numberIn (sym e ∙ a .answer ∙ (λ i. cond (h i) (Wrote (length xs)) (Refused noRoom))) in
-          let c : out′ ≡ xs ++ drop (length xs) out = a .content ∙ (λ i. cond (h i) (xs ++ drop (length xs) out) out) in
-          let l : length out′ ≡ length xs + length (drop (length xs) out) = ap length c ∙ length-append xs (drop (length xs) out) in
-          record { room = leb-true _ _ h; low = omega (arith, n, l); text = (λ i. take (n i) (c i)) ∙ take-append-seam xs (drop (length xs) out) }
-      by false h =
-          let z : _≡_ {A = ℕ} 1 0 = ap wrote (sym e ∙ a .answer ∙ (λ i. cond (h i) (Wrote (length xs)) (Refused noRoom))) in
-          absurd (omega arith)
-
-  pub back : {n : ℕ} → r ≡ Refused n → Back xs out n
-  unfolding O.answerOf
-  back {n} e = by (leb (length xs) (length out)) refl
-    where
-      by : (t : Bool) → leb (length xs) (length out) ≡ t → Back xs out n
-      by true h =
-          let z : _≡_ {A = ℕ} 0 1 = ap wrote (sym e ∙ a .answer ∙ (λ i. cond (h i) (Wrote (length xs)) (Refused noRoom))) in
-          absurd (omega arith)
-      by false h =
-          let m : n ≡ noRoom = ap numberIn (sym e ∙ a .answer ∙ (λ i. cond (h i) (Wrote (length xs)) (Refused noRoom))) in
-          record { none = leb-false _ _ h; number = m }
-
--- ---- a tree's output, by what its text's writer answered on a buffer of 65,536 bytes
-module _ (t : Tree) {buffer : List ℕ} (size : mostText ≡ length buffer) where
-  pub with-figures : {text : List ℕ} {m : ℕ} → Front (textOf (t .nodes)) buffer text m → {figures : List ℕ} → figures ≡ figuresOf t → take m text ++ figures ≡ treeOutput t
+-- ---- a tree's output, by its text as it was put into a buffer with room for every output
+module _ (t : Tree) {buffer buffer′ : List ℕ} {m : ℕ} (size : mostOutput ≡ length buffer) (text : Puts buffer 0 (textOf (t .nodes)) buffer′ m) where
+  pub with-figures : m ≤ mostText → {figures buffer″ : List ℕ} {n : ℕ} → figures ≡ figuresOf t → Puts buffer′ m figures buffer″ n → Front (treeOutput t) buffer″ n
   unfolding treeOutput
-  with-figures v e =
-      let l : length (textOf (t .nodes)) ≤ mostText = omega (arith, v .room) in
-      let h : leb (length (textOf (t .nodes))) mostText ≡ true = le-leb _ _ l in
-      rw h (λ i. v .text i ++ e i)
+  with-figures l e p =
+      let k : length (textOf (t .nodes)) ≤ mostText = omega (arith, text .to) in
+      let h : leb (length (textOf (t .nodes))) mostText ≡ true = le-leb _ _ k in
+      let f = figures-short (t .allowed) (t .farthest) (total (t .nodes)) (worst (t .nodes)) in
+      rw h (put-front (puts-then text (puts-as p e)) (simp length-append (omega (arith, text .to, f))))
 
-  pub too-long : {n : ℕ} → Back (textOf (t .nodes)) buffer n → refusalLine n ≡ treeOutput t
+  pub too-long : mostText < m → refusalLine noRoom ≡ treeOutput t
   unfolding treeOutput
-  too-long v =
-      let l : mostText < length (textOf (t .nodes)) = omega (arith, v .none) in
-      let h : leb (length (textOf (t .nodes))) mostText ≡ false = lt-leb _ _ l in
-      rw h (ap refusalLine (v .number))
+  too-long l =
+      let k : mostText < length (textOf (t .nodes)) = omega (arith, text .to) in
+      let h : leb (length (textOf (t .nodes))) mostText ≡ false = lt-leb _ _ k in
+      rw h
 
 -- ---- a job's output, by the outcome of routing it
 module _ (job : List ℕ) {o : Outcome} (v : Outcomes (routeOf job) o) where

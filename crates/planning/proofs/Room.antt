@@ -40,7 +40,7 @@ refusal-short : (n : ℕ) → length (refusalLine n) ≤ 19
 unfolding refusalLine
 refusal-short n = simp length-append (omega (arith, decimal-few n))
 
-figures-short : (a : ℤ) (w l v : ℕ) → length (figuresLine a w l v) ≤ 74
+pub figures-short : (a : ℤ) (w l v : ℕ) → length (figuresLine a w l v) ≤ 74
 unfolding figuresLine
 figures-short a w l v = simp length-append (omega (arith, int-few a, decimal-few w, decimal-few l, decimal-few v))
 

@@ -14,12 +14,6 @@ ghost use Rattle.planning.specs.Output.{mostText, mostOutput, refusalLin
 // "the text (buffer 65,536 bytes)"
 const MOST_TEXT: usize = 65536;
 
-fn text_buffer() -> [u8; MOST_TEXT]
-    ensures { λ r. ⌜ mostText ≡ length r ⌝ }
-{
-    [0; MOST_TEXT]
-}
-
 // Room for every output: the text, and the longest line of figures.
 pub const MOST_OUTPUT: usize = 65610;
 
@@ -61,14 +55,6 @@ pub fn put_figures(out: &mut [u8], at: usize, f: Figures) -> usize
     output::put_bytes(out, p8, b"\n")
 }
 
-// The text, then the figures.
-fn put_both(out: &mut [u8], at: usize, text: &[u8], f: Figures) -> usize
-    ensures { λ r. ⌜ Puts (now (out .entry)) at (now (text .entry) ++ figuresLine (f .allowed) (f .farthest) (f .total) (f .worst)) (now (out .exit)) r ⌝ }
-{
-    let p = output::put_bytes(out, at, text);
-    put_figures(out, p, f)
-}
-
 // ---- written whole or not at all: measured by the same writer, on a buffer of one byte
 
 fn write_refusal(n: u8, out: &mut [u8]) -> Answer
@@ -80,17 +66,6 @@ fn write_refusal(n: u8, out: &mut [u8]) -> Answer
         return Answer::Refused(output::NO_ROOM);
     }
     Answer::Wrote(put_refusal(out, 0, n))
-}
-
-fn write_both(text: &[u8], f: Figures, out: &mut [u8]) -> Answer
-    ensures { λ r. ⌜ Answers (now (text .entry) ++ figuresLine (f .allowed) (f .farthest) (f .total) (f .worst)) (now (out .entry)) r (now (out .exit)) ⌝ }
-{
-    let mut none = [0u8; 1];
-    let m = put_both(&mut none, 0, text, f);
-    if out.len() < m {
-        return Answer::Refused(output::NO_ROOM);
-    }
-    Answer::Wrote(put_both(out, 0, text, f))
 }
 
 // ---- a tree, and a job
@@ -119,12 +94,13 @@ fn write_tree(t: GlobalRoutingTree, out: &mut [u8]) -> Answer
     ensures { λ r. ⌜ Answers (treeOutput (treeOf t)) (now (out .entry)) r (now (out .exit)) ⌝ }
 {
     let f = read_figures(t);
-    let mut text = text_buffer();
-    let answer = t.get_tree_structure(&mut text);
-    match answer {
-        Answer::Wrote(m) => write_both(&text[..m], f, out),
-        Answer::Refused(n) => write_refusal(n, out),
+    let mut text = output_buffer();
+    let m = t.put_tree_structure(&mut text, 0);
+    if MOST_TEXT < m {
+        return write_refusal(output::NO_ROOM, out);
     }
+    let n = put_figures(&mut text, m, f);
+    output::write_bytes(&text[..n], out)
 }
 
 // What the program writes for a job, whole or not at all. Refusal: 11.

@@ -28,14 +28,14 @@ fn put_indent(out: &mut [u8], at: usize, level: usize) -> usize
     p
 }
 
-// Kind 0 is the source, 1 a Steiner node, 2 a terminal.
+// A kind that is neither the source's nor a Steiner node's is a terminal's.
 fn put_name(out: &mut [u8], at: usize, kind: u8, number: u16) -> usize
     ensures { λ r. ⌜ Puts (now (out .entry)) at (headOf (nameFrom kind number)) (now (out .exit)) r ⌝ }
 {
-    if kind == 0 {
+    if kind == tree::SOURCE {
         return output::put_bytes(out, at, b"Source(source");
     }
-    if kind == 1 {
+    if kind == tree::STEINER {
         let p = output::put_bytes(out, at, b"Steiner(steiner_");
         return decimal::put_u32(out, p, number as u32);
     }
@@ -160,6 +160,41 @@ fn put_children<'a>(
     )
 }
 
+// The text at a place: what would stand past the end is left out, and still counts.
+pub fn put_text<'a>(
+    xs: &'a [i32],
+    ys: &'a [i32],
+    path: &'a [u32],
+    parent: &'a [u16],
+    kind: &'a [u8],
+    number: &'a [u16],
+    last: &'a [u16],
+    prev: &'a [u16],
+    n: usize,
+    out: &mut [u8],
+    at: usize,
+) -> usize
+    requires { ⌜ Stands (lent (now xs) (now ys) (now path) (now parent) (now kind) (now number) (now last) (now prev)) n ⌝ }
+    ensures { λ r. ⌜ Puts (now (out .entry)) at (textOf (nodesOf (lent (now (xs .entry)) (now (ys .entry)) (now (path .entry)) (now (parent .entry)) (now (kind .entry)) (now (number .entry)) (now (last .entry)) (now (prev .entry))) n)) (now (out .exit)) r ⌝ }
+{
+    put_node(
+        xs,
+        ys,
+        path,
+        parent,
+        kind,
+        number,
+        last,
+        prev,
+        n,
+        out,
+        at,
+        0,
+        NodeIndex(0),
+        n,
+    )
+}
+
 // The text, if it fits whole. It is measured by the same writer, on a buffer of one byte.
 pub fn write_text<'a>(
     xs: &'a [i32],
@@ -177,7 +212,7 @@ pub fn write_text<'a>(
     ensures { λ r. ⌜ Answers (textOf (nodesOf (lent (now (xs .entry)) (now (ys .entry)) (now (path .entry)) (now (parent .entry)) (now (kind .entry)) (now (number .entry)) (now (last .entry)) (now (prev .entry))) n)) (now (out .entry)) r (now (out .exit)) ⌝ }
 {
     let mut none = [0u8; 1];
-    let m = put_node(
+    let m = put_text(
         xs,
         ys,
         path,
@@ -189,28 +224,10 @@ pub fn write_text<'a>(
         n,
         &mut none,
         0,
-        0,
-        NodeIndex(0),
-        n,
     );
     if out.len() < m {
         return Answer::Refused(output::NO_ROOM);
     }
-    let r = put_node(
-        xs,
-        ys,
-        path,
-        parent,
-        kind,
-        number,
-        last,
-        prev,
-        n,
-        out,
-        0,
-        0,
-        NodeIndex(0),
-        n,
-    );
+    let r = put_text(xs, ys, path, parent, kind, number, last, prev, n, out, 0);
     Answer::Wrote(r)
 }

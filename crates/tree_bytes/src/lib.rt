@@ -25,7 +25,7 @@ fn number_byte(kind: u8, number: u16) -> u8
     requires { ⌜ numberOf (nameFrom kind number) ≤ mostNodes ⌝ }
     ensures { λ r. ⌜ r ≡ numberOf (nameFrom kind number) ⌝ }
 {
-    if kind == 0 {
+    if kind == tree::SOURCE {
         return 0;
     }
     number as u8

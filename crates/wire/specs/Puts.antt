@@ -3,7 +3,7 @@
 use mathlib.Core.Path.{_≡_, refl, sym, ap, _∙_}
 use mathlib.Core.Logic.{_⊎_, inl, inr, ⊎-elim}
 use mathlib.Core.List.{List, [], _∷_, _++_}
-use Prim.Native.Nat.{ℕ, suc, _+_, _≤_, min}
+use Prim.Native.Nat.{ℕ, suc, _+_, _≤_, _<_, min}
 use native.Mathlib.Decide.{decLe}
 use native.Mathlib.Omega.{arith}
 use lib.ListN.{length, take, drop, set, length-append}
@@ -76,6 +76,9 @@ module _ {l xs l′ : List ℕ} {at p : ℕ} (a : Puts l at xs l′ p) where
 
 pub puts-none : (l : List ℕ) (at : ℕ) → length l ≤ lastPlace → at ≤ lastPlace → Puts l at [] l at
 puts-none l at f g = record { is = refl; to = omega arith; small = f }
+
+pub puts-one : (l : List ℕ) (at b : ℕ) → length l ≤ lastPlace → at < length l → Puts l at (b ∷ []) (set l at b) (at + 1)
+puts-one l at b f g = record { is = refl; to = omega arith; small = f }
 
 -- what is left to do of a text: rest at p in l′ completes whole at at in l
 pub record Left (l : List ℕ) (at : ℕ) (whole l′ : List ℕ) (p : ℕ) (rest : List ℕ) : Type 0 where

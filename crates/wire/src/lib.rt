@@ -4,7 +4,7 @@
 // so one writer both measures and writes.
 ghost use mathlib.Core.Path.{_≡_};
 ghost use mathlib.Core.List.{[], _∷_};
-ghost use Prim.Native.Nat.{_+_, _*_};
+ghost use Prim.Native.Nat.{_+_, _-_, _*_};
 ghost use Rattle.wire.specs.Fields.{byte, le16, le32, le64, int32, twos32, leBytes, int32Bytes, bits32};
 ghost use Rattle.wire.specs.Puts.{Puts, upTo};
 
@@ -18,6 +18,13 @@ fn after(at: usize, n: usize) -> usize
         return at + n;
     }
     LAST_PLACE
+}
+
+// How many bytes stand from a place on, of `size`.
+pub fn room(size: usize, at: usize) -> usize
+    ensures { λ r. ⌜ r ≡ size - at ⌝ }
+{
+    if at < size { size - at } else { 0 }
 }
 
 // ---- a number of two halves

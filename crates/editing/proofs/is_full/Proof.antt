@@ -4,7 +4,7 @@ use Rattle.search.specs.declared.Join.{Join}
 use Rattle.search.specs.Find.{joinOf}
 use Rattle.tree.specs.WellFormed.{newNodes}
 use Rattle.table_steps.specs.Steps.{newNumber}
-use Rattle.editing.specs.Editing.{noRoom}
+use Rattle.editing.specs.Editing.{overfull}
 use borrow.Author.Needs.{needs}
 use Rattle.editing.proofs.is_full.Statement.{statement}
 use Rattle.editing.proofs.is_full.Tie as tie
@@ -12,22 +12,22 @@ use Rattle.editing.proofs.is_full.Tie as tie
 enum-known-j : tie.Need-enum-known-j
 enum-known-j c = search needs
 
-no-room-requires : tie.Need-no-room-requires
-no-room-requires c κs = search needs
+overfull-requires : tie.Need-overfull-requires
+overfull-requires c κs = search needs
 
 enum-known-j-2 : tie.Need-enum-known-j-2
 enum-known-j-2 c = search needs
 
-no-room-requires-2 : tie.Need-no-room-requires-2
-no-room-requires-2 c κs = search needs
+overfull-requires-2 : tie.Need-overfull-requires-2
+overfull-requires-2 c κs = search needs
 
 returns : tie.Need-returns
-returns c = c .no-room .ensures ∙ ap (λ (j : Join). noRoom (c .before .before .before .before .args .k .nodes) (newNodes (joinOf j)) (newNumber (c .before .before .before .before .args .k) (joinOf j))) (sym (c .before .before .j .given .1))
+returns c = c .overfull .ensures ∙ ap (λ (j : Join). overfull (c .before .before .before .before .args .k .nodes) (newNodes (joinOf j)) (newNumber (c .before .before .before .before .args .k) (joinOf j))) (sym (c .before .before .j .given .1))
 
 returns-2 : tie.Need-returns-2
-returns-2 c = c .no-room2 .ensures ∙ ap (λ (j : Join). noRoom (c .before .before .before .before .args .k .nodes) (newNodes (joinOf j)) (newNumber (c .before .before .before .before .args .k) (joinOf j))) (sym (c .before .before .j2 .given .1))
+returns-2 c = c .overfull2 .ensures ∙ ap (λ (j : Join). overfull (c .before .before .before .before .args .k .nodes) (newNodes (joinOf j)) (newNumber (c .before .before .before .before .args .k) (joinOf j))) (sym (c .before .before .j2 .given .1))
 
 pub is-full-spec : {M : Type 1} → statement M
 is-full-spec =
     tie.close
-    (tie.spec enum-known-j no-room-requires enum-known-j-2 no-room-requires-2 returns returns-2)
+    (tie.spec enum-known-j overfull-requires enum-known-j-2 overfull-requires-2 returns returns-2)

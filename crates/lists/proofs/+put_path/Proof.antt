@@ -27,123 +27,57 @@ abbrev put-path-below : ℕ → In 2 put-path-kinds.ps
 put-path-below t =
     and 2 put-path-kinds.ps (falls 2 put-path-kinds.ps _<_ μ-put-path t) put-path.Pre
 
-put-path-put-index-requires : (t : ℕ) → put-path-lts.Need-put-index-requires (
+-- what put-path may use of its callees
+abbrev put-path-calls : ℕ → put-path-lts.Claims
+put-path-calls t = (
   put-index-reads.Asked,
   put-index-reads.Learnt,
   wide-reads.Asked,
   wide-reads.Learnt,
   put-path-below t,
   put-path.Post,
-) (put-path-at t) put-path.Post
+)
+
+put-path-put-index-requires : (t : ℕ) → put-path-lts.Need-put-index-requires (put-path-calls t) (put-path-at t) put-path.Post
 put-path-put-index-requires t c κs = tt
 
-put-path-same-length : (t : ℕ) → put-path-lts.Need-same-length (
-  put-index-reads.Asked,
-  put-index-reads.Learnt,
-  wide-reads.Asked,
-  wide-reads.Learnt,
-  put-path-below t,
-  put-path.Post,
-) (put-path-at t) put-path.Post
+put-path-same-length : (t : ℕ) → put-path-lts.Need-same-length (put-path-calls t) (put-path-at t) put-path.Post
 put-path-same-length t c = puts-length (c .before .before .put-index .ensures)
 
-put-path-returns : (t : ℕ) → put-path-lts.Need-returns (
-  put-index-reads.Asked,
-  put-index-reads.Learnt,
-  wide-reads.Asked,
-  wide-reads.Learnt,
-  put-path-below t,
-  put-path.Post,
-) (put-path-at t) put-path.Post
+put-path-returns : (t : ℕ) → put-path-lts.Need-returns (put-path-calls t) (put-path-at t) put-path.Post
 put-path-returns t c = puts-as (c .before .before .put-index .ensures) (path-none _ _ _ (c .before .before .before .before .if1 .taken))
 
-put-path-wide-requires : (t : ℕ) → put-path-lts.Need-wide-requires (
-  put-index-reads.Asked,
-  put-index-reads.Learnt,
-  wide-reads.Asked,
-  wide-reads.Learnt,
-  put-path-below t,
-  put-path.Post,
-) (put-path-at t) put-path.Post
+put-path-wide-requires : (t : ℕ) → put-path-lts.Need-wide-requires (put-path-calls t) (put-path-at t) put-path.Post
 put-path-wide-requires t c κs = tt
 
-put-path-mul-p : (t : ℕ) → put-path-lts.Need-mul-p (
-  put-index-reads.Asked,
-  put-index-reads.Learnt,
-  wide-reads.Asked,
-  wide-reads.Learnt,
-  put-path-below t,
-  put-path.Post,
-) (put-path-at t) put-path.Post
+put-path-mul-p : (t : ℕ) → put-path-lts.Need-mul-p (put-path-calls t) (put-path-at t) put-path.Post
 put-path-mul-p t c =
     let s = c .before .before .before .before .before .before .before .before .before in
     let v = read (s .pre .1 .0) in
     omega (arith, c .wide .ensures, s .pre .1 .1, v .few)
 
-put-path-shared-slice-read-p : (t : ℕ) → put-path-lts.Need-shared-slice-read-p (
-  put-index-reads.Asked,
-  put-index-reads.Learnt,
-  wide-reads.Asked,
-  wide-reads.Learnt,
-  put-path-below t,
-  put-path.Post,
-) (put-path-at t) put-path.Post
+put-path-shared-slice-read-p : (t : ℕ) → put-path-lts.Need-shared-slice-read-p (put-path-calls t) (put-path-at t) put-path.Post
 put-path-shared-slice-read-p t c =
     let s = c .before .before .before .before .before .before .before .before .before .before in
     let v = read (s .pre .1 .0) in
     omega (arith, c .before .wide .ensures, s .pre .1 .1, v .in-parent)
 
-put-path-put-index-requires-2 : (t : ℕ) → put-path-lts.Need-put-index-requires-2 (
-  put-index-reads.Asked,
-  put-index-reads.Learnt,
-  wide-reads.Asked,
-  wide-reads.Learnt,
-  put-path-below t,
-  put-path.Post,
-) (put-path-at t) put-path.Post
+put-path-put-index-requires-2 : (t : ℕ) → put-path-lts.Need-put-index-requires-2 (put-path-calls t) (put-path-at t) put-path.Post
 put-path-put-index-requires-2 t c κs = tt
 
-put-path-same-length-2 : (t : ℕ) → put-path-lts.Need-same-length-2 (
-  put-index-reads.Asked,
-  put-index-reads.Learnt,
-  wide-reads.Asked,
-  wide-reads.Learnt,
-  put-path-below t,
-  put-path.Post,
-) (put-path-at t) put-path.Post
+put-path-same-length-2 : (t : ℕ) → put-path-lts.Need-same-length-2 (put-path-calls t) (put-path-at t) put-path.Post
 put-path-same-length-2 t c = puts-length (c .before .before .put-index2 .ensures)
 
-put-path-returns-2 : (t : ℕ) → put-path-lts.Need-returns-2 (
-  put-index-reads.Asked,
-  put-index-reads.Learnt,
-  wide-reads.Asked,
-  wide-reads.Learnt,
-  put-path-below t,
-  put-path.Post,
-) (put-path-at t) put-path.Post
+put-path-returns-2 : (t : ℕ) → put-path-lts.Need-returns-2 (put-path-calls t) (put-path-at t) put-path.Post
 put-path-returns-2 t c =
     let s = c .before .before .before .before .before .before .before .before .before .before .before .before .before .before .before in
     let e = c .before .before .before .before .before .before .wide .ensures in
     puts-as (c .before .before .put-index2 .ensures) (path-source _ _ _ (parent-none (read (s .pre .1 .0)) _ (s .pre .1 .1) (sym (parent-at (s .args .parent .now) e) ∙ c .before .before .before .before .if2 .taken)))
 
-put-path-sub-put-path : (t : ℕ) → put-path-lts.Need-sub-put-path (
-  put-index-reads.Asked,
-  put-index-reads.Learnt,
-  wide-reads.Asked,
-  wide-reads.Learnt,
-  put-path-below t,
-  put-path.Post,
-) (put-path-at t) put-path.Post
+put-path-sub-put-path : (t : ℕ) → put-path-lts.Need-sub-put-path (put-path-calls t) (put-path-at t) put-path.Post
 put-path-sub-put-path t c = let z = c .before .before .before .before .if1 .left in omega arith
 
-put-path-put-path-requires : (t : ℕ) → put-path-lts.Need-put-path-requires (
-  put-index-reads.Asked,
-  put-index-reads.Learnt,
-  wide-reads.Asked,
-  wide-reads.Learnt,
-  put-path-below t,
-  put-path.Post,
-) (put-path-at t) put-path.Post
+put-path-put-path-requires : (t : ℕ) → put-path-lts.Need-put-path-requires (put-path-calls t) (put-path-at t) put-path.Post
 put-path-put-path-requires t c κs =
     let s = c .before .before .before .before .before .before .before .before .before .before .before .before in
     let z = c .before .before .before .before .if1 .left in
@@ -151,34 +85,13 @@ put-path-put-path-requires t c κs =
     let f = c .before .if2 .left in
     (omega (arith, s .pre .0), (s .pre .1 .0, subst (λ (p : ℕ). p < s .args .n) (sym d) (parent-low (read (s .pre .1 .0)) _ (s .pre .1 .1) (λ g. f (d ∙ g)))))
 
-put-path-put-index-requires-3 : (t : ℕ) → put-path-lts.Need-put-index-requires-3 (
-  put-index-reads.Asked,
-  put-index-reads.Learnt,
-  wide-reads.Asked,
-  wide-reads.Learnt,
-  put-path-below t,
-  put-path.Post,
-) (put-path-at t) put-path.Post
+put-path-put-index-requires-3 : (t : ℕ) → put-path-lts.Need-put-index-requires-3 (put-path-calls t) (put-path-at t) put-path.Post
 put-path-put-index-requires-3 t c κs = tt
 
-put-path-same-length-3 : (t : ℕ) → put-path-lts.Need-same-length-3 (
-  put-index-reads.Asked,
-  put-index-reads.Learnt,
-  wide-reads.Asked,
-  wide-reads.Learnt,
-  put-path-below t,
-  put-path.Post,
-) (put-path-at t) put-path.Post
+put-path-same-length-3 : (t : ℕ) → put-path-lts.Need-same-length-3 (put-path-calls t) (put-path-at t) put-path.Post
 put-path-same-length-3 t c = puts-length (puts-then (c .before .before .before .before .before .before .put-path .ensures) (c .before .before .put-index3 .ensures))
 
-put-path-returns-3 : (t : ℕ) → put-path-lts.Need-returns-3 (
-  put-index-reads.Asked,
-  put-index-reads.Learnt,
-  wide-reads.Asked,
-  wide-reads.Learnt,
-  put-path-below t,
-  put-path.Post,
-) (put-path-at t) put-path.Post
+put-path-returns-3 : (t : ℕ) → put-path-lts.Need-returns-3 (put-path-calls t) (put-path-at t) put-path.Post
 put-path-returns-3 t c =
     let s = c .before .before .before .before .before .before .before .before .before .before .before .before .before .before .before .before .before .before .before in
     let d = parent-at (s .args .parent .now) (c .before .before .before .before .before .before .before .before .before .before .wide .ensures) in
@@ -187,14 +100,7 @@ put-path-returns-3 t c =
     (path-more _ _ _ _ (c .before .before .before .before .before .before .before .before .before .before .before .if1 .left) (parent-some (read (s .pre .1 .0)) _ (s .pre .1 .1) (λ g. f (d ∙ g)) ∙ ap at (sym d)))
 
 pub +put-path-spec : {M : Type 1} → statement M
-+put-path-spec = close μ-put-path λ t. put-path-lts.spec (
-  put-index-reads.Asked,
-  put-index-reads.Learnt,
-  wide-reads.Asked,
-  wide-reads.Learnt,
-  put-path-below t,
-  put-path.Post,
-)
++put-path-spec = close μ-put-path λ t. put-path-lts.spec (put-path-calls t)
     (put-path-at t)
     put-path.Post
     (put-path-put-index-requires t)

@@ -1,11 +1,11 @@
--- `editing::no_room`: the two tests in turn.
+-- `editing::overfull`: the two tests in turn.
 use Rattle.editing.proofs.Refusing.{over, under}
 use mathlib.Core.Path.{ap, sym, _∙_}
 use native.Mathlib.Omega.{arith}
 use borrow.Author.Tests.{lt-ltb, le-ltb}
 use borrow.Author.Needs.{needs}
-use Rattle.editing.proofs.no_room.Statement.{statement}
-use Rattle.editing.proofs.no_room.Tie as tie
+use Rattle.editing.proofs.overfull.Statement.{statement}
+use Rattle.editing.proofs.overfull.Tie as tie
 
 add-wide : tie.Need-add-wide
 add-wide c = search needs
@@ -22,5 +22,5 @@ wide-requires-2 c κs = search needs
 returns-2 : tie.Need-returns-2
 returns-2 c = under (c .before .before .before .args .n) (c .before .before .before .args .more) (c .before .before .before .args .number) (c .before .before .wide .ensures) (c .before .if1 .left) (c .wide2 .ensures)
 
-pub no-room-spec : {M : Type 1} → statement M
-no-room-spec = tie.close (tie.spec add-wide wide-requires returns wide-requires-2 returns-2)
+pub overfull-spec : {M : Type 1} → statement M
+overfull-spec = tie.close (tie.spec add-wide wide-requires returns wide-requires-2 returns-2)

@@ -1,18 +1,12 @@
--- `output::put_bytes`: what is left to write is the rest of the bytes.
+-- `output::put_each`: what is left to write is the rest of the bytes.
 use native.Mathlib.Omega.{arith}
-use native.Mathlib.Numerals.{add-one}
 use borrow.Author.Needs.{needs}
-use mathlib.Core.Path.{_≡_}
-use mathlib.Core.List.{List, [], _∷_, _++_}
-use Prim.Native.Nat.{ℕ, _+_, _<_, _≤_, _-_}
-use lib.ListN.{length, getD, drop, drop-of-length-le}
-use lib.Seq.{drop-cons}
+use Prim.Native.Nat.{_≤_, _-_}
+use lib.ListN.{length, drop, drop-of-length-le}
 use Rattle.wire.specs.Puts.{Left, left-all, left-less, left-none}
-use Rattle.output.proofs.put_bytes.Statement.{statement}
-use Rattle.output.proofs.put_bytes.Tie as tie
-
-bytes-step : (s : List ℕ) (k : ℕ) → k < length s → drop k s ≡ (getD s k 0 ∷ []) ++ drop (k + 1) s
-bytes-step s k h = rw (add-one k, drop-cons s k 0)
+use Rattle.output.proofs.Bytes.{bytes-step}
+use Rattle.output.proofs.put_each.Statement.{statement}
+use Rattle.output.proofs.put_each.Tie as tie
 
 abbrev Inv-loop : tie.InvT-loop
 Inv-loop out₀ at s p₀ k₀ out p k = (k ≤ length s) × Left out₀ at s out p (drop k s)
@@ -47,8 +41,8 @@ same-length c = c .before .loop .inv .1 .same
 returns : tie.Need-returns Inv-loop μ-loop
 returns c = left-none (c .before .loop .inv .1) (drop-of-length-le _ (c .loop-test .left))
 
-pub put-bytes-spec : {M : Type 1} → statement M
-put-bytes-spec =
+pub put-each-spec : {M : Type 1} → statement M
+put-each-spec =
     tie.close
     (tie.spec
     Inv-loop
