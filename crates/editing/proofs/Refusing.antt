@@ -1,12 +1,12 @@
 -- The refusals of an edit in their order: a test that holds ends the edit, and one that does not passes it on; so with a name that is looked up.
-use Prim.Native.Nat.{ℕ, _+_, _≤_, _<_}
+use Prim.Native.Nat.{ℕ, _+_, _*_, _≤_, _<_}
 use mathlib.Core.Path.{_≡_, refl, sym, ap, subst, _∙_}
 use mathlib.Core.Bool.{Bool, true, false, not, _||_, cond}
 use mathlib.Core.List.{List, [], _∷_}
 use native.Mathlib.Omega.{arith}
 use lib.Dec.{ltb, eqb}
 use borrow.Author.Tests.{lt-ltb, le-ltb, ltb-false, eq-eqb, ne-eqb, eqb-true, eqb-false}
-use lib.ListN.{length}
+use lib.ListN.{length, replicate}
 use lib.IntN.{ℤ}
 use Rattle.geometry.specs.declared.Point.{Point}
 use Rattle.geometry.specs.Laws.{Within}
@@ -19,6 +19,8 @@ use Rattle.search.specs.declared.Query.{Query}
 use Rattle.search.specs.declared.Join.{Join}
 use Rattle.search.specs.Branch.{keepoutsOf}
 use Rattle.search.specs.Find.{joinOf, Kept, Ready, Joins}
+use Rattle.boxes.specs.Covering.{lowest, highest}
+use Rattle.boxes.proofs.Fresh.{covers-any}
 use Rattle.inserting.specs.Insert.{Points, NearColumns, ClosestOf}
 use Rattle.tree.specs.Tree.{Node, Tree, Name, source, steiner, terminal, Parent, none, at, nodeAt}
 use Rattle.tree.specs.Memory.{nameIn}
@@ -189,6 +191,7 @@ module _ {t : Table} (v : Tabled t) where
     near-columns =
         record {
           some = some v;
+          few = v .few;
           in-xs = omega (arith, v .sized .rows .xs, v .few);
           in-ys = omega (arith, v .sized .rows .ys, v .few);
           near = λ i h. subst (Within reach) (sym (points .points i h)) (v .formed .near i);
@@ -205,8 +208,17 @@ module _ {t : Table} (v : Tabled t) where
   readable = kept (tableTree t) (v .formed) few mostNodes (tableColumns t) (v .sized) (v .keeps) few
 
   module _ (a : Query) (near : Within reach (a .point)) (n : ℕ) (e : n ≡ t .counts .nodes) where
-    pub ready : Ready n a (t .xs) (t .ys) (t .path) (t .last) (t .prev)
-    ready = record { nodes = tableTree t .nodes; size = size t ∙ sym e; small = omega (arith, v .few, e); kept = readable; tree = walks (tableTree t) (v .formed) few; within = near }
+    pub ready : Ready n a (t .xs) (t .ys) (t .path) (t .last) (t .prev) (replicate (2 * mostNodes) lowest) (replicate (2 * mostNodes) highest)
+    ready =
+        record {
+          nodes = tableTree t .nodes;
+          size = size t ∙ sym e;
+          small = omega (arith, v .few, e);
+          kept = readable;
+          tree = walks (tableTree t) (v .formed) few;
+          covers = covers-any (2 * mostNodes) (tableTree t .nodes) (v .formed .linked) (omega (arith, few)) (v .formed .near);
+          within = near;
+        }
 
     pub finds : (ks : List ℤ) (j : Join) → Joins n a (t .xs) (t .ys) (t .path) (t .last) (t .prev) ks j
         → joinOf j ≡ T.find (T.blocked (keepoutsOf ks)) (tableTree t .nodes) (a .limit) (a .allowed) (a .point)

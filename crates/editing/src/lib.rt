@@ -123,13 +123,26 @@ fn terminal_parent(t: Table, q: Point, parent: ParentName) -> Lookup
     }
 }
 
-// Where the search has the query's point join.
+// Where the search has the query's point join. A tree that is searched once has boxes that cover any.
 fn find_place(t: Table, query: Query, ks: &[i32]) -> Join
     requires { ⌜ Tabled t × Within reach (query .point) ⌝ }
     ensures { λ r. ⌜ joinOf r ≡ find (blocked (keepoutsOf (now (ks .entry)))) (tableTree t .nodes) (query .limit) (query .allowed) (query .point) ⌝ }
 {
     let n = search::wide(t.counts.nodes);
-    search::find_insertion_point(n, query, &t.xs, &t.ys, &t.path, &t.last, &t.prev, ks)
+    let lows = [boxes::LOWEST; boxes::BOUNDS];
+    let highs = [boxes::HIGHEST; boxes::BOUNDS];
+    search::find_insertion_point(
+        n,
+        query,
+        &t.xs,
+        &t.ys,
+        &t.path,
+        &t.last,
+        &t.prev,
+        &lows,
+        &highs,
+        ks,
+    )
 }
 
 // ---- refusals 8 and 10

@@ -1,3 +1,4 @@
 pub mod Geometry
 pub mod Signed
 pub mod Laws
+pub mod Intervals

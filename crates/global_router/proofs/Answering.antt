@@ -11,25 +11,37 @@ use Rattle.tree.specs.Limits.{reach}
 use Rattle.tree.specs.Tree.{Tree}
 use Rattle.job.specs.Job as J
 use Rattle.job.specs.Job.{Job, outside, readJob}
+use Rattle.nodes.specs.declared.Table.{Table}
+use Rattle.nodes.specs.Table.{tableTree}
 use Rattle.route.specs.Demand3.{Owed}
 use Rattle.route.proofs.Owed.{demand3}
 use Rattle.route.specs.Routing.{Routing, refused, routed, treeFor, routingOf, routeOf}
-use Rattle.global_router.specs.declared.GlobalRoutingTree.{GlobalRoutingTree}
+use Rattle.global_router.specs.declared.Answer.{Answer}
 use Rattle.global_router.specs.declared.Answer.the-variants.{Refused, Done}
 use Rattle.global_router.specs.declared.Outcome.{Outcome}
-use Rattle.global_router.specs.Stored.{treeOf, Stored}
-use Rattle.global_router.specs.Calls.{Outcomes, answerOf, begun, newOf}
+use Rattle.global_router.specs.Stored.{treeOf}
+use Rattle.global_router.specs.Calls.{Outcomes, answerOf, begun, newOf, Answered}
 
 pub origin-near : (p : Point) → p ≡ origin → Within reach p
 origin-near p e = subst (Within reach) (sym e) (record { xcoord = omega arith; ycoord = omega arith })
 
 -- a refusal, beside the tree of a source at (0, 0)
-pub refuses : (n : ℕ) (s : Point) (g : GlobalRoutingTree) → s ≡ origin → treeOf g ≡ begun s → Stored g → Outcomes (refused n) (record { answer = Refused n; tree = g })
-refuses n s g e h st = record { is = refl; beside = λ k f. h ∙ ap begun e; stored = st }
+pub refuses : (n : ℕ) (s : Point) (t : Table) (r : Outcome) → s ≡ origin → tableTree t ≡ begun s → Answered (Refused n) t r → Outcomes (refused n) r
+refuses n s t r e h p =
+    record {
+      is = ap (λ (a : Answer). answerOf a (treeOf (r .tree))) (p .answer);
+      beside = λ k f. p .tree ∙ h ∙ ap begun e;
+      stored = p .stored;
+    }
 
 -- a tree
-pub gives : (t : Tree) (g : GlobalRoutingTree) → treeOf g ≡ t → Stored g → Outcomes (routed t) (record { answer = Done; tree = g })
-gives t g h st = record { is = ap routed h; beside = λ n f. absurd (let z : _≡_ {A = ℕ} 0 1 = cc in omega arith); stored = st }
+pub gives : (x : Tree) (t : Table) (r : Outcome) → tableTree t ≡ x → Answered Done t r → Outcomes (routed x) r
+gives x t r h p =
+    record {
+      is = ap (λ (a : Answer). answerOf a (treeOf (r .tree))) (p .answer) ∙ ap routed (p .tree ∙ h);
+      beside = λ n f. absurd (let z : _≡_ {A = ℕ} 0 1 = cc in omega arith);
+      stored = p .stored;
+    }
 
 as-answer : {x y : Routing} {r : Outcome} → x ≡ y → Outcomes y r → Outcomes x r
 as-answer {r = r} e o = subst (λ (z : Routing). Outcomes z r) (sym e) o

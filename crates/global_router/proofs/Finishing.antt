@@ -1,8 +1,6 @@
 -- An edit of a tree in columns, brought back to memory: a refusal leaves the tree that came in, and an insertion gives the table's tree.
-use Prim.Native.Nat.{ℕ}
-use mathlib.Core.Path.{_≡_, refl, sym, ap, _∙_}
+use mathlib.Core.Path.{_≡_, refl, sym, ap, subst, _∙_}
 use Rattle.tree.specs.Memory.{nameIn}
-use Rattle.tree.specs.declared.NodeName.{NodeName}
 use Rattle.nodes.specs.declared.Table.{Table}
 use Rattle.nodes.specs.Table.{tableTree}
 use Rattle.editing.specs.declared.Answer.{Answer}
@@ -13,17 +11,16 @@ use Rattle.editing.specs.Editing.{editOf, Edits}
 use Rattle.global_router.specs.declared.GlobalRoutingTree.{GlobalRoutingTree}
 use Rattle.global_router.specs.declared.Edited.{Edited}
 use Rattle.global_router.specs.Stored.{treeOf, Stored}
-use Rattle.global_router.specs.Editing.{EditedTo, Finished}
+use Rattle.global_router.specs.Editing.{EditedTo, Finished, chosen}
 
-module _ (g : GlobalRoutingTree) (e : Edit) where
-  same : {a : Answer} → e .answer ≡ a → editOf a (tableTree (e .table)) ≡ editOf (e .answer) (tableTree (e .table))
-  same h = ap (λ (a : Answer). editOf a (tableTree (e .table))) (sym h)
+-- beside each answer, the tree that came in or the tree t after the edit
+beside : (g t : GlobalRoutingTree) (x : Table) → Stored g → treeOf t ≡ tableTree x → Stored t → (a : Answer) → Finished g (record { answer = a; table = x }) (record { answer = a; tree = chosen a g t })
+beside g t x v is st (Refused n) = record { is = refl; kept = refl; stored = v }
+beside g t x v is st (Inserted n) = record { is = ap (D.inserted (nameIn n)) is; kept = tt; stored = st }
 
-  pub refusal : Stored g → (n : ℕ) → e .answer ≡ Refused n → Finished g e (record { answer = Refused n; tree = g })
-  refusal v n h = record { is = same h; kept = refl; stored = v }
-
-  pub insertion : (n : NodeName) (t : GlobalRoutingTree) → e .answer ≡ Inserted n → treeOf t ≡ tableTree (e .table) → Stored t → Finished g e (record { answer = Inserted n; tree = t })
-  insertion n t h is v = record { is = ap (D.inserted (nameIn n)) is ∙ same h; kept = tt; stored = v }
+pub finished : (g t : GlobalRoutingTree) (e : Edit) → Stored g → treeOf t ≡ tableTree (e .table) → Stored t → (r : GlobalRoutingTree) → r ≡ chosen (e .answer) g t
+    → Finished g e (record { answer = e .answer; tree = r })
+finished g t e v is st r h = subst (λ (x : GlobalRoutingTree). Finished g e (record { answer = e .answer; tree = x })) (sym h) (beside g t (e .table) v is st (e .answer))
 
 -- the edit of the tree in memory is that of the tree in the table
 pub edited : {x y : D.Edit} {g : GlobalRoutingTree} {t : Table} {e : Edit} {r : Edited} → Edits y t e → y ≡ x → Finished g e r → EditedTo x g r

@@ -9,7 +9,7 @@ use lib.IntN.{ℤ, pos}
 use Rattle.geometry.specs.declared.Point.{Point}
 use Rattle.geometry.specs.declared.Rectangle.{Rectangle}
 use Rattle.geometry.specs.Laws.{Within}
-use Rattle.tree.specs.Limits.{reach, mostTerminals, mostKeepouts, mostNodes}
+use Rattle.tree.specs.Limits.{reach, mostTerminals, mostKeepouts}
 use Rattle.tree.specs.Tree.{Tree}
 use Rattle.tree.specs.Route.{route}
 use Rattle.job.specs.declared.RoutingJob.{RoutingJob}
@@ -20,13 +20,12 @@ use Rattle.job.specs.Accepted.{AcceptedInMemory}
 use Rattle.job.proofs.Accepted.{in-memory}
 use Rattle.search.specs.Branch.{keepoutsOf}
 use Rattle.sorting.specs.Points.{pt, Even}
-use Rattle.joining.specs.Store.{nodeOf}
-use Rattle.joining.proofs.Reading.{length-upto}
 use Rattle.nodes.specs.declared.Table.{Table}
-use Rattle.nodes.specs.Table.{tableColumns, tableTree, Tabled}
+use Rattle.nodes.specs.Table.{tableTree, Tabled}
 use Rattle.route.specs.Plan.{points, Plannable, Planned}
 use Rattle.route.specs.Routing.{wayOf, treeFor}
 use Rattle.global_router.specs.Calls.{Sound}
+use Rattle.global_router.proofs.Plans.{plan-tabled}
 use Rattle.global_router.proofs.Columns.{points-are, keepouts-are, coords-length}
 
 module _ (j : RoutingJob) (v : Sound j) where
@@ -121,15 +120,4 @@ module _ (j : RoutingJob) (v : Sound j) where
     planned-is = p .tree ∙ (λ i. route (wayOf (j .mode)) (j .source) (((λ k. points (xs-are k) (ys-are k)) ∙ points-are ts) i) (ks-are i))
 
     pub tabled : Tabled t
-    tabled =
-        let size = length-upto (nodeOf (tableColumns t)) (t .counts .nodes) in
-        record {
-          formed = p .formed;
-          keeps = p .keeps;
-          sized = p .sized;
-          back = p .back;
-          few = omega (arith, size, p .counted .size, p .counted .steiners, p .next, part-xs, terminals-few);
-          steiners = omega (arith, p .counted .steiners, p .next, part-xs, terminals-few);
-          limit-small = p .limit-small;
-          farthest-small = p .farthest-small;
-        }
+    tabled = plan-tabled t p (omega (arith, part-xs, terminals-few))

@@ -1,4 +1,4 @@
-pub mod Beginning
+pub mod Plans
 pub mod Columns
 pub mod Packed
 pub mod Unpacked

@@ -42,9 +42,9 @@ memory t nodes allowed =
       farthest = t .farthest;
     }
 
-module _ (t : Table) (v : Tabled t) (n : ℕ) (is-n : n ≡ t .counts .nodes) (nodes : List RoutingNode) (packs : Packs (tableColumns t .rows) n nodes) where
+module _ (t : Table) (v : Tabled t) (nodes : List RoutingNode) (packs : Packs (tableColumns t .rows) (t .counts .nodes) nodes) where
   nodes-same : treeOf (memory t nodes (t .allowed)) .nodes ≡ tableTree t .nodes
-  nodes-same = upto-same (M.nodeOf (memory t nodes (t .allowed))) (nodeOf (tableColumns t)) (t .counts .nodes) (λ i h. packs .is i (omega arith) _)
+  nodes-same = upto-same (M.nodeOf (memory t nodes (t .allowed))) (nodeOf (tableColumns t)) (t .counts .nodes) (λ i h. packs .is i h _)
 
   packed-is : treeOf (memory t nodes (t .allowed)) ≡ tableTree t
   packed-is =
@@ -82,7 +82,7 @@ module _ (t : Table) (v : Tabled t) (n : ℕ) (is-n : n ≡ t .counts .nodes) (n
         steiners = v .steiners;
         limit-small = v .limit-small;
         farthest-small = v .farthest-small;
-        figures = λ i h. (ap (λ (x : Node). x .capacitance) (packs .is i (omega arith) []), ap (λ (x : Node). x .delay) (packs .is i (omega arith) []));
+        figures = λ i h. (ap (λ (x : Node). x .capacitance) (packs .is i h []), ap (λ (x : Node). x .delay) (packs .is i h []));
         nodes = packs .size;
         last = v .sized .last;
         prev = v .sized .prev;

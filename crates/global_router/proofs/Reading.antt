@@ -1,63 +1,23 @@
--- What the calls that read a tree rest on: in its columns a tree stands, and what is read of the columns is read of the tree.
-use Prim.Native.Nat.{ℕ, _<_}
-use mathlib.Core.Path.{_≡_, refl, sym, ap, subst, _∙_}
+-- What is read of a tree's columns is read of the tree.
+use Prim.Native.Nat.{ℕ}
+use mathlib.Core.Path.{_≡_, sym, ap, subst, _∙_}
 use mathlib.Core.List.{List}
-use native.Mathlib.Omega.{arith}
 use Rattle.tree.specs.Tree.{Tree, Name}
-use Rattle.tree.specs.Measures as D
-use Rattle.tree.specs.Measures.{lookup, pathTo}
-use Rattle.tree.specs.declared.NodeIndex.{NodeIndex}
-use Rattle.joining.specs.Store.{nodeOf, nodesOf, Sized}
+use Rattle.tree.specs.Measures.{lookup}
+use Rattle.joining.specs.Store.{nodeOf}
 use Rattle.joining.proofs.Reading.{length-upto}
-use Rattle.measures.specs.Standing.{Stands}
 use Rattle.output.specs.declared.Answer.{Answer}
-use Rattle.output.specs.declared.Answer.the-variants.{Refused}
 use Rattle.output.specs.Answer.{Answers}
 use Rattle.nodes.specs.declared.Lookup.{Lookup}
-use Rattle.nodes.specs.declared.Lookup.the-variants.{Missing, Found}
 use Rattle.nodes.specs.declared.Table.{Table}
 use Rattle.nodes.specs.Nodes.{lookupOf}
-use Rattle.nodes.specs.Table.{tableColumns, tableTree, Tabled}
-use Rattle.nodes.proofs.Naming.{found-low}
+use Rattle.nodes.specs.Table.{tableColumns, tableTree}
 use Rattle.editing.specs.Edits.{nodeNamed}
-use Rattle.global_router.specs.Reading.{PathFrom, PathAnswers}
+use Rattle.global_router.specs.Reading.{PathAnswers}
 
-pub stands : (t : Table) → Tabled t → Stands (tableColumns t) (t .counts .nodes)
-stands t v =
-    record {
-      tree = tableTree t;
-      formed = v .formed;
-      size = length-upto (nodeOf (tableColumns t)) (t .counts .nodes);
-      few = v .few;
-      numbers = v .steiners;
-      keeps = v .keeps;
-      sized = subst (λ (m : ℕ). Sized m (tableColumns t)) (sym (v .sized .rows .xs)) (v .sized);
-      room = omega (arith, v .sized .rows .xs, v .few);
-    }
+pub path-of : {x y : Tree} (n : Name) (out out′ : List ℕ) (r : Answer) → x ≡ y → PathAnswers x n out r out′ → PathAnswers y n out r out′
+path-of n out out′ r e a = subst (λ (t : Tree). PathAnswers t n out r out′) e a
 
--- with the count as the code has it
-module _ {t : Table} (v : Tabled t) {n : ℕ} (e : n ≡ t .counts .nodes) where
-  pub lends : Stands (tableColumns t) n
-  lends = subst (Stands (tableColumns t)) (sym e) (stands t v)
-
-  pub nodes-of : {x : Tree} → tableTree t ≡ x → nodesOf (tableColumns t) n ≡ x .nodes
-  nodes-of h = ap (nodesOf (tableColumns t)) e ∙ ap (λ (y : Tree). y .nodes) h
-
--- an answer about the same numbers
-pub answers-of : {xs ys out out′ : List ℕ} {r : Answer} → xs ≡ ys → Answers xs out r out′ → Answers ys out r out′
-answers-of {out = out} {out′} {r} e a = subst (λ (l : List ℕ). Answers l out r out′) e a
-
--- ---- the node that has a name, and the path to it
-module _ {t : Table} (v : Tabled t) {x : Tree} (h : tableTree t ≡ x) (name : Name) (l : Lookup) (el : lookupOf l ≡ lookup (tableTree t .nodes) name (t .counts .nodes)) where
-  pub named-is : lookupOf l ≡ nodeNamed x name
-  named-is = el ∙ ap (lookup (tableTree t .nodes) name) (sym (length-upto (nodeOf (tableColumns t)) (t .counts .nodes))) ∙ ap (λ (y : Tree). nodeNamed y name) h
-
-  pub path-missing : l ≡ Missing → (out : List ℕ) → PathAnswers x name out (Refused 7) out
-  path-missing e out = subst (λ (k : D.Lookup). PathFrom (x .nodes) k out (Refused 7) out) (ap lookupOf (sym e) ∙ named-is) (refl, refl)
-
-  module _ (i : NodeIndex) (e : l ≡ Found i) where
-    pub path-low : i .0 < t .counts .nodes
-    path-low = found-low (tableTree t .nodes) name (t .counts .nodes) (i .0) (sym el ∙ ap lookupOf e)
-
-    pub path-found : {out out′ : List ℕ} {r : Answer} → Answers (pathTo (x .nodes) (i .0)) out r out′ → PathAnswers x name out r out′
-    path-found {out} {out′} {r} a = subst (λ (k : D.Lookup). PathFrom (x .nodes) k out r out′) (ap lookupOf (sym e) ∙ named-is) a
+-- the node that has a name
+pub named-is : (t : Table) {x : Tree} → tableTree t ≡ x → (name : Name) (l : Lookup) → lookupOf l ≡ lookup (tableTree t .nodes) name (t .counts .nodes) → lookupOf l ≡ nodeNamed x name
+named-is t h name l e = e ∙ ap (lookup (tableTree t .nodes) name) (sym (length-upto (nodeOf (tableColumns t)) (t .counts .nodes))) ∙ ap (λ (y : Tree). nodeNamed y name) h

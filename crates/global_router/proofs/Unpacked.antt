@@ -11,6 +11,7 @@ use Rattle.tree.specs.Tree.{Node, at, nodeAt, blank}
 use Rattle.tree.specs.WellFormed.{WellFormed}
 use Rattle.tree.proofs.Linking.{parent-in}
 use Rattle.search.specs.Columns.{chain, Chain, Linked}
+use Rattle.joining.specs.declared.Counts.{Counts}
 use Rattle.joining.specs.Links.{ChildrenAre}
 use Rattle.joining.specs.Store.{Rows, Columns, rowAt, columns, nodeFrom, nodeOf, nodesOf, SizedRows, Keeps}
 use Rattle.joining.proofs.Reading.{length-upto, getD-upto}
@@ -19,7 +20,7 @@ use Rattle.nodes.specs.Nodes.{Packs, Unpackable}
 use Rattle.nodes.specs.Table.{tableTree, Tabled}
 use Rattle.global_router.specs.declared.GlobalRoutingTree.{GlobalRoutingTree}
 use Rattle.global_router.specs.Stored as M
-use Rattle.global_router.specs.Stored.{treeOf, Stored}
+use Rattle.global_router.specs.Stored.{treeOf, countsOf, Stored}
 use Rattle.global_router.proofs.Packed.{upto-same}
 
 -- ---- columns whose chains end keep the nodes that are read in them
@@ -59,8 +60,8 @@ module _ (g : GlobalRoutingTree) (v : Stored g) where
 
   -- ---- as the code makes it, with the allowance as the code reads it back
   module _ (r : Rows) (packs : Packs r (g .count) (g .nodes)) (sized : SizedRows mostNodes r) where
-    abbrev table : ℤ → Table
-    table allowed =
+    abbrev table : Counts → ℤ → Table
+    table k allowed =
         record {
           xs = r .xs;
           ys = r .ys;
@@ -71,16 +72,16 @@ module _ (g : GlobalRoutingTree) (v : Stored g) where
           last = g .last;
           prev = g .prev;
           next = g .next;
-          counts = record { nodes = g .count; steiner = g .«next_steiner_id»; terminal = g .«next_terminal_id» };
+          counts = k;
           limit = g .«worst_wirelength»;
           allowed = allowed;
           farthest = g .farthest;
         }
 
-    nodes-same : tableTree (table (g .allowed)) .nodes ≡ treeOf g .nodes
+    nodes-same : tableTree (table (countsOf g) (g .allowed)) .nodes ≡ treeOf g .nodes
     nodes-same = upto-same (nodeOf (columns r (g .last) (g .prev))) (M.nodeOf g) (g .count) (λ i h. sym (packs .is i h _))
 
-    unpacked-is : tableTree (table (g .allowed)) ≡ treeOf g
+    unpacked-is : tableTree (table (countsOf g) (g .allowed)) ≡ treeOf g
     unpacked-is =
         λ i. record {
           nodes = nodes-same i;
@@ -91,7 +92,7 @@ module _ (g : GlobalRoutingTree) (v : Stored g) where
           nextTerminal = g .«next_terminal_id» .0;
         }
 
-    unpacked-tabled : Tabled (table (g .allowed))
+    unpacked-tabled : Tabled (table (countsOf g) (g .allowed))
     unpacked-tabled =
         record {
           formed = subst WellFormed (sym unpacked-is) (v .formed);
@@ -104,5 +105,7 @@ module _ (g : GlobalRoutingTree) (v : Stored g) where
           farthest-small = v .farthest-small;
         }
 
-    pub unpacked : In32 (g .allowed) → (tableTree (table (back (g .allowed))) ≡ treeOf g) × Tabled (table (back (g .allowed)))
-    unpacked f = subst (λ (z : ℤ). (tableTree (table z) ≡ treeOf g) × Tabled (table z)) (sym (home f)) (unpacked-is, unpacked-tabled)
+    pub unpacked : (k : Counts) → k ≡ countsOf g → In32 (g .allowed) → (tableTree (table k (back (g .allowed))) ≡ treeOf g) × Tabled (table k (back (g .allowed)))
+    unpacked k e f =
+        subst (λ (k : Counts). (tableTree (table k (back (g .allowed))) ≡ treeOf g) × Tabled (table k (back (g .allowed)))) (sym e)
+        (subst (λ (z : ℤ). (tableTree (table (countsOf g) z) ≡ treeOf g) × Tabled (table (countsOf g) z)) (sym (home f)) (unpacked-is, unpacked-tabled))

@@ -12,6 +12,8 @@ use Rattle.job.specs.Job.{outside}
 use Rattle.job.specs.declared.RoutingJob.{RoutingJob}
 use Rattle.job.specs.Reading.{packed, unpacked}
 use Rattle.job.specs.Accepted.{Accepted}
+use Rattle.nodes.specs.declared.Table.{Table}
+use Rattle.nodes.specs.Table.{tableTree}
 use Rattle.route.specs.Routing.{Routing, refused, routed}
 use Rattle.global_router.specs.declared.Answer.{Answer}
 use Rattle.global_router.specs.declared.Answer.the-variants.{Refused, Done}
@@ -42,3 +44,9 @@ pub record Outcomes (x : Routing) (r : Outcome) : Type 0 where
 pub record Sound (j : RoutingJob) : Type 0 where
   pub packing : j ≡ packed (unpacked j)
   pub accepted : Accepted (unpacked j)
+
+-- an answer, and in memory the tree that stands in t
+pub record Answered (a : Answer) (t : Table) (r : Outcome) : Type 0 where
+  pub answer : r .answer ≡ a
+  pub tree : treeOf (r .tree) ≡ tableTree t
+  pub stored : Stored (r .tree)

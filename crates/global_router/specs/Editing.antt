@@ -6,6 +6,8 @@ use Rattle.rectangles.specs.declared.Flat.{Flat}
 use Rattle.rectangles.specs.Rectangles.{Gathers}
 use Rattle.nodes.specs.Table.{tableTree}
 use Rattle.editing.specs.declared.Edit as E
+use Rattle.editing.specs.declared.Answer.{Answer}
+use Rattle.editing.specs.declared.Answer.the-variants.{Refused, Inserted}
 use Rattle.editing.specs.Edits as D
 use Rattle.editing.specs.Editing.{editOf, Kept}
 use Rattle.global_router.specs.declared.GlobalRoutingTree.{GlobalRoutingTree}
@@ -17,6 +19,11 @@ pub record EditedTo (x : D.Edit) (g : GlobalRoutingTree) (r : Edited) : Type 0 w
   pub is : editOf (r .answer) (treeOf (r .tree)) ≡ x
   pub kept : Kept (r .answer) g (r .tree)
   pub stored : Stored (r .tree)
+
+-- the tree that stands beside an answer
+abbrev pub chosen : Answer → GlobalRoutingTree → GlobalRoutingTree → GlobalRoutingTree
+chosen (Refused n) before after = before
+chosen (Inserted n) before after = after
 
 -- what stands in a table after an edit is in memory
 pub record Finished (g : GlobalRoutingTree) (e : E.Edit) (r : Edited) : Type 0 where

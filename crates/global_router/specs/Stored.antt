@@ -8,6 +8,7 @@ use Rattle.tree.specs.Tree.{Node, Tree, zeroFigure, climb}
 use Rattle.tree.specs.Memory.{nodeIn}
 use Rattle.tree.specs.WellFormed.{WellFormed}
 use Rattle.search.specs.Columns.{chain, Linked}
+use Rattle.joining.specs.declared.Counts.{Counts}
 use Rattle.joining.specs.Links.{Links, links, LinkedBack}
 use Rattle.joining.specs.Store.{upTo}
 use Rattle.nodes.specs.Nodes.{blankNode}
@@ -22,6 +23,10 @@ linksIn g = links (g .last) (g .prev) (g .next)
 
 abbrev pub nodeOf : GlobalRoutingTree → ℕ → Node
 nodeOf g i = nodeIn (getD (g .nodes) i blankNode) (childrenIn g i)
+
+-- how many nodes there are, and the next numbers
+abbrev pub countsOf : GlobalRoutingTree → Counts
+countsOf g = record { nodes = g .count; steiner = g .«next_steiner_id»; terminal = g .«next_terminal_id» }
 
 abbrev pub treeOf : GlobalRoutingTree → Tree
 treeOf g =

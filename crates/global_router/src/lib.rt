@@ -4,6 +4,7 @@ use editing::NodeType;
 use editing::ParentName;
 use geometry::Point;
 use geometry::Rectangle;
+use job::Mode;
 use job::ReadAnswer;
 use job::RoutingJob;
 use joining::Counts;
@@ -12,17 +13,14 @@ use nodes::Table;
 use rectangles::Flat;
 use search::Query;
 use tree::NodeName;
-use tree::Parent;
 use tree::RoutingNode;
 use tree::SteinerNumber;
 use tree::TerminalNumber;
-use tree_bytes::Figures;
 ghost use mathlib.Core.Path.{_≡_};
 ghost use Prim.Native.Nat.{_≤_};
-ghost use lib.ListN.{replicate};
 ghost use Rattle.geometry.specs.Laws.{Within};
 ghost use Rattle.geometry.specs.Geometry.{origin};
-ghost use Rattle.tree.specs.Limits.{reach, mostNodes, noNode};
+ghost use Rattle.tree.specs.Limits.{reach};
 ghost use Rattle.tree.specs.Tree.{total};
 ghost use Rattle.tree.specs.Measures.{worst, steinerNodes, terminalNodes};
 ghost use Rattle.tree.specs.Memory.{nameIn};
@@ -33,16 +31,16 @@ ghost use Rattle.text.specs.Text.{textOf};
 ghost use Rattle.tree_bytes.specs.TreeBytes.{treeBytes};
 ghost use Rattle.nodes.specs.Nodes.{lookupOf};
 ghost use Rattle.nodes.specs.Table.{tableTree, Tabled};
-ghost use Rattle.route.specs.Routing.{refused, treeFor, routeOf};
+ghost use Rattle.route.specs.Routing.{refused, routed, treeFor, routeOf};
 ghost use Rattle.route.specs.Demand3.{Owed};
 ghost use Rattle.tree.specs.Optimize.{optimize};
 ghost use Rattle.search.specs.Branch.{keepoutsOf};
 ghost use Rattle.rectangles.specs.Rectangles.{room};
 ghost use Rattle.editing.specs.Edits.{nodeNamed, insertSteinerNode, insertTerminalNode, insertNodeOnBranch, insertTerminalWithSteiner, insertTerminalWithConstraints};
 ghost use Rattle.editing.specs.Editing.{parentNameOf, kindIn};
-ghost use Rattle.global_router.specs.Stored.{treeOf, Stored};
-ghost use Rattle.global_router.specs.Calls.{Outcomes, answerOf, newOf, Sound, begun};
-ghost use Rattle.global_router.specs.Editing.{EditedTo, EditedBy, Finished};
+ghost use Rattle.global_router.specs.Stored.{treeOf, countsOf, Stored};
+ghost use Rattle.global_router.specs.Calls.{Outcomes, answerOf, newOf, Sound, Answered, begun};
+ghost use Rattle.global_router.specs.Editing.{EditedTo, EditedBy, Finished, chosen};
 ghost use Rattle.global_router.specs.Reading.{lookedUp, PathAnswers};
 
 // Children are links: `last` has a node's last child, `prev` and `next` the siblings before and after a node.
@@ -59,42 +57,16 @@ pub struct GlobalRoutingTree {
     farthest: u32,
 }
 
-fn no_links() -> [u16; tree::MOST_NODES]
-    ensures { λ r. ⌜ r ≡ replicate mostNodes noNode ⌝ }
-{
-    [tree::NO_NODE; tree::MOST_NODES]
-}
-
-// A tree of the source alone.
-fn begin(s: Point) -> GlobalRoutingTree
+// The columns of a source alone: a route to no terminals.
+fn source_alone(s: Point) -> Table
     requires { ⌜ Within reach s ⌝ }
-    ensures is { λ r. ⌜ treeOf r ≡ begun s ⌝ }
-    ensures stored { λ r. ⌜ Stored r ⌝ }
+    ensures is { λ r. ⌜ tableTree r ≡ begun s ⌝ }
+    ensures tabled { λ r. ⌜ Tabled r ⌝ }
 {
-    let mut nodes = nodes::blank_nodes();
-    nodes[0] = RoutingNode {
-        name: NodeName::Source,
-        parent: Parent::None,
-        pt: s,
-        path_length: 0,
-        capacitance: 0.0,
-        delay: 0.0,
-    };
-    let last = no_links();
-    let prev = no_links();
-    let next = no_links();
-    GlobalRoutingTree {
-        nodes: nodes,
-        last: last,
-        prev: prev,
-        next: next,
-        count: 1,
-        next_steiner_id: SteinerNumber(1),
-        next_terminal_id: TerminalNumber(1),
-        worst_wirelength: tree::NO_LIMIT,
-        allowed: 2147483647,
-        farthest: 0,
-    }
+    let mut xs = [0i32; 1];
+    let mut ys = [0i32; 1];
+    let ks = [0i32; 1];
+    route::plan(&mut xs[..0], &mut ys[..0], &ks[..0], s, Mode::Simple)
 }
 
 // A tree that stands in columns.
@@ -103,20 +75,13 @@ fn from_table(t: Table) -> GlobalRoutingTree
     ensures is { λ r. ⌜ treeOf r ≡ tableTree t ⌝ }
     ensures stored { λ r. ⌜ Stored r ⌝ }
 {
-    let xs = t.xs;
-    let ys = t.ys;
-    let path = t.path;
-    let parent = t.parent;
-    let kind = t.kind;
-    let number = t.number;
+    let nodes = reading::nodes_of(t);
     let last = t.last;
     let prev = t.prev;
     let next = t.next;
     let k = t.counts;
-    let n = search::wide(k.nodes);
     let steiner = k.steiner;
     let terminal = k.terminal;
-    let nodes = nodes::pack(&xs, &ys, &path, &parent, &kind, &number, n);
     GlobalRoutingTree {
         nodes: nodes,
         last: last,
@@ -131,6 +96,18 @@ fn from_table(t: Table) -> GlobalRoutingTree
     }
 }
 
+fn counts_of(g: GlobalRoutingTree) -> Counts
+    ensures { λ r. ⌜ r ≡ countsOf g ⌝ }
+{
+    let steiner = g.next_steiner_id;
+    let terminal = g.next_terminal_id;
+    Counts {
+        nodes: g.count,
+        steiner: steiner,
+        terminal: terminal,
+    }
+}
+
 // And back to columns.
 fn to_table(g: GlobalRoutingTree) -> Table
     requires { ⌜ Stored g ⌝ }
@@ -138,32 +115,17 @@ fn to_table(g: GlobalRoutingTree) -> Table
     ensures tabled { λ r. ⌜ Tabled r ⌝ }
 {
     let nodes = g.nodes;
+    let rows = reading::rows_of(nodes, g.count);
+    let xs = rows.xs;
+    let ys = rows.ys;
+    let path = rows.path;
+    let parent = rows.parent;
+    let kind = rows.kind;
+    let number = rows.number;
     let last = g.last;
     let prev = g.prev;
     let next = g.next;
-    let steiner = g.next_steiner_id;
-    let terminal = g.next_terminal_id;
-    let k = Counts {
-        nodes: g.count,
-        steiner: steiner,
-        terminal: terminal,
-    };
-    let mut xs = [0i32; tree::MOST_NODES];
-    let mut ys = [0i32; tree::MOST_NODES];
-    let mut path = [0u32; tree::MOST_NODES];
-    let mut parent = [0u16; tree::MOST_NODES];
-    let mut kind = [0u8; tree::MOST_NODES];
-    let mut number = [0u16; tree::MOST_NODES];
-    nodes::unpack(
-        &mut xs,
-        &mut ys,
-        &mut path,
-        &mut parent,
-        &mut kind,
-        &mut number,
-        nodes,
-        g.count,
-    );
+    let k = counts_of(g);
     Table {
         xs: xs,
         ys: ys,
@@ -181,11 +143,11 @@ fn to_table(g: GlobalRoutingTree) -> Table
     }
 }
 
-// The tree of a job that was accepted.
-fn routed(j: RoutingJob) -> GlobalRoutingTree
+// The columns of the tree of a job that was accepted.
+fn planned(j: RoutingJob) -> Table
     requires { ⌜ Sound j ⌝ }
-    ensures is { λ r. ⌜ treeOf r ≡ treeFor (unpacked j) ⌝ }
-    ensures stored { λ r. ⌜ Stored r ⌝ }
+    ensures is { λ r. ⌜ tableTree r ≡ treeFor (unpacked j) ⌝ }
+    ensures tabled { λ r. ⌜ Tabled r ⌝ }
 {
     let mut xs = j.terminal_xs;
     let mut ys = j.terminal_ys;
@@ -194,8 +156,7 @@ fn routed(j: RoutingJob) -> GlobalRoutingTree
     let k = 4 * j.keepout_count;
     let s = j.source;
     let mode = j.mode;
-    let table = route::plan(&mut xs[..t], &mut ys[..t], &ks[..k], s, mode);
-    from_table(table)
+    route::plan(&mut xs[..t], &mut ys[..t], &ks[..k], s, mode)
 }
 
 // The answer of a call that gives a tree: its refusal's number, or that it is done.
@@ -218,15 +179,24 @@ fn origin() -> Point
     }
 }
 
+// An answer and the tree that stands in columns.
+fn answered(answer: Answer, t: Table) -> Outcome
+    requires { ⌜ Tabled t ⌝ }
+    ensures { λ r. ⌜ Answered answer t r ⌝ }
+{
+    let tree = from_table(t);
+    Outcome {
+        answer: answer,
+        tree: tree,
+    }
+}
+
 // With a refusal stands the tree of a source at (0, 0).
 fn refused(n: u8) -> Outcome
     ensures { λ r. ⌜ Outcomes (refused n) r ⌝ }
 {
-    let t = begin(origin());
-    Outcome {
-        answer: Answer::Refused(n),
-        tree: t,
-    }
+    let t = source_alone(origin());
+    answered(Answer::Refused(n), t)
 }
 
 impl GlobalRoutingTree {
@@ -237,11 +207,8 @@ impl GlobalRoutingTree {
         if job::outside(source_position) {
             return refused(5);
         }
-        let t = begin(source_position);
-        Outcome {
-            answer: Answer::Done,
-            tree: t,
-        }
+        let t = source_alone(source_position);
+        answered(Answer::Done, t)
     }
 
     // ---- what is read of a tree
@@ -252,19 +219,7 @@ impl GlobalRoutingTree {
         ensures { λ r. ⌜ r ≡ total (treeOf self .nodes) ⌝ }
     {
         let t = to_table(self);
-        let k = t.counts;
-        let n = search::wide(k.nodes);
-        measures::total_wirelength(
-            &t.xs,
-            &t.ys,
-            &t.path,
-            &t.parent,
-            &t.kind,
-            &t.number,
-            &t.last,
-            &t.prev,
-            n,
-        )
+        reading::total_wirelength(t)
     }
 
     // The worst: the longest sum from source to any leaf.
@@ -273,19 +228,7 @@ impl GlobalRoutingTree {
         ensures { λ r. ⌜ r ≡ worst (treeOf self .nodes) ⌝ }
     {
         let t = to_table(self);
-        let k = t.counts;
-        let n = search::wide(k.nodes);
-        measures::worst_wirelength(
-            &t.xs,
-            &t.ys,
-            &t.path,
-            &t.parent,
-            &t.kind,
-            &t.number,
-            &t.last,
-            &t.prev,
-            n,
-        )
+        reading::worst_wirelength(t)
     }
 
     // The node that has a name.
@@ -303,24 +246,7 @@ impl GlobalRoutingTree {
         ensures { λ r. ⌜ PathAnswers (treeOf self) (nameIn name) (now (out .entry)) r (now (out .exit)) ⌝ }
     {
         let t = to_table(self);
-        let Lookup::Found(i) = nodes::find_node(t, name) else {
-            return output::Answer::Refused(7);
-        };
-        let k = t.counts;
-        let n = search::wide(k.nodes);
-        lists::write_path(
-            &t.xs,
-            &t.ys,
-            &t.path,
-            &t.parent,
-            &t.kind,
-            &t.number,
-            &t.last,
-            &t.prev,
-            n,
-            i,
-            out,
-        )
+        reading::find_path(t, name, out)
     }
 
     // The terminals, in index order. Refusal: 11.
@@ -329,20 +255,7 @@ impl GlobalRoutingTree {
         ensures { λ r. ⌜ Answers (terminalNodes (treeOf self .nodes)) (now (out .entry)) r (now (out .exit)) ⌝ }
     {
         let t = to_table(self);
-        let k = t.counts;
-        let n = search::wide(k.nodes);
-        lists::write_terminals(
-            &t.xs,
-            &t.ys,
-            &t.path,
-            &t.parent,
-            &t.kind,
-            &t.number,
-            &t.last,
-            &t.prev,
-            n,
-            out,
-        )
+        reading::write_terminals(t, out)
     }
 
     // The Steiner nodes, in index order. Refusal: 11.
@@ -351,20 +264,7 @@ impl GlobalRoutingTree {
         ensures { λ r. ⌜ Answers (steinerNodes (treeOf self .nodes)) (now (out .entry)) r (now (out .exit)) ⌝ }
     {
         let t = to_table(self);
-        let k = t.counts;
-        let n = search::wide(k.nodes);
-        lists::write_steiner_nodes(
-            &t.xs,
-            &t.ys,
-            &t.path,
-            &t.parent,
-            &t.kind,
-            &t.number,
-            &t.last,
-            &t.prev,
-            n,
-            out,
-        )
+        reading::write_steiner_nodes(t, out)
     }
 
     // The text. Refusal: 11.
@@ -373,20 +273,7 @@ impl GlobalRoutingTree {
         ensures { λ r. ⌜ Answers (textOf (treeOf self .nodes)) (now (out .entry)) r (now (out .exit)) ⌝ }
     {
         let t = to_table(self);
-        let k = t.counts;
-        let n = search::wide(k.nodes);
-        text::write_text(
-            &t.xs,
-            &t.ys,
-            &t.path,
-            &t.parent,
-            &t.kind,
-            &t.number,
-            &t.last,
-            &t.prev,
-            n,
-            out,
-        )
+        reading::write_text(t, out)
     }
 
     // The text at a place of a buffer: what would stand past the end is left out, and still counts.
@@ -395,21 +282,7 @@ impl GlobalRoutingTree {
         ensures { λ r. ⌜ Puts (now (out .entry)) at (textOf (treeOf self .nodes)) (now (out .exit)) r ⌝ }
     {
         let t = to_table(self);
-        let k = t.counts;
-        let n = search::wide(k.nodes);
-        text::put_text(
-            &t.xs,
-            &t.ys,
-            &t.path,
-            &t.parent,
-            &t.kind,
-            &t.number,
-            &t.last,
-            &t.prev,
-            n,
-            out,
-            at,
-        )
+        reading::put_text(t, out, at)
     }
 
     // The tree bytes. Refusal: 11.
@@ -418,25 +291,7 @@ impl GlobalRoutingTree {
         ensures { λ r. ⌜ Answers (treeBytes (treeOf self)) (now (out .entry)) r (now (out .exit)) ⌝ }
     {
         let t = to_table(self);
-        let f = Figures {
-            allowed: self.allowed,
-            farthest: self.farthest,
-        };
-        let k = t.counts;
-        let n = search::wide(k.nodes);
-        tree_bytes::write_tree_bytes(
-            &t.xs,
-            &t.ys,
-            &t.path,
-            &t.parent,
-            &t.kind,
-            &t.number,
-            &t.last,
-            &t.prev,
-            n,
-            f,
-            out,
-        )
+        reading::write_tree_bytes(t, out)
     }
 
     // The allowance.
@@ -462,6 +317,20 @@ pub struct Edited {
     pub tree: GlobalRoutingTree,
 }
 
+// After a refusal the tree that came in, else the tree after the edit.
+fn chosen(
+    answer: editing::Answer,
+    before: GlobalRoutingTree,
+    after: GlobalRoutingTree,
+) -> GlobalRoutingTree
+    ensures { λ r. ⌜ r ≡ chosen answer before after ⌝ }
+{
+    match answer {
+        editing::Answer::Refused(_) => before,
+        editing::Answer::Inserted(_) => after,
+    }
+}
+
 // The tree g after an edit of its columns.
 fn finish(g: GlobalRoutingTree, e: Edit) -> Edited
     requires { ⌜ Stored g × Tabled (e .table) ⌝ }
@@ -469,15 +338,10 @@ fn finish(g: GlobalRoutingTree, e: Edit) -> Edited
 {
     let after = from_table(e.table);
     let answer = e.answer;
-    match answer {
-        editing::Answer::Refused(n) => Edited {
-            answer: editing::Answer::Refused(n),
-            tree: g,
-        },
-        editing::Answer::Inserted(name) => Edited {
-            answer: editing::Answer::Inserted(name),
-            tree: after,
-        },
+    let tree = chosen(answer, g, after);
+    Edited {
+        answer: answer,
+        tree: tree,
     }
 }
 
@@ -623,6 +487,14 @@ impl GlobalRoutingTree {
     }
 }
 
+fn accepted(j: RoutingJob) -> Outcome
+    requires { ⌜ Sound j ⌝ }
+    ensures { λ r. ⌜ Outcomes (routed (treeFor (unpacked j))) r ⌝ }
+{
+    let t = planned(j);
+    answered(Answer::Done, t)
+}
+
 // The tree of a job. Refusals: 1 to 6, of the job's bytes.
 pub fn route(bytes: &[u8]) -> Outcome
     ensures is { λ r. ⌜ Outcomes (routeOf (now (bytes .entry))) r ⌝ }
@@ -634,11 +506,7 @@ pub fn route(bytes: &[u8]) -> Outcome
         ReadAnswer::Refused(n) => refused(n),
         ReadAnswer::Accepted => {
             let j = reading.job;
-            let t = routed(j);
-            Outcome {
-                answer: Answer::Done,
-                tree: t,
-            }
+            accepted(j)
         }
     }
 }

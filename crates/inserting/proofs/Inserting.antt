@@ -20,16 +20,18 @@ use Rattle.search.specs.declared.Query.{Query}
 use Rattle.search.specs.declared.Join.{Join}
 use Rattle.search.specs.Branch.{keepoutsOf}
 use Rattle.search.specs.Find.{joinOf, Ready, Joins}
+use Rattle.search.specs.Boxes.{Covers}
 use Rattle.joining.specs.declared.Counts.{Counts}
 use Rattle.joining.specs.Store.{Store, columnsOf}
 use Rattle.joining.specs.Join.{terminalRow, oneMore, Attachable, RowAttached}
-use Rattle.joining.specs.Standing.{Stores, Standing, Anything, At, Joined}
+use Rattle.joining.specs.Standing.{Stores, Standing, Anything, At}
 use Rattle.joining.proofs.Reading.{sized-columns, walks, kept}
 use Rattle.joining.proofs.Placing.{weaker, few, may-attach}
 use Rattle.joining.proofs.Growing.{stores-terminal, sized-terminal}
 use Rattle.inserting.specs.declared.Way.{Way}
 use Rattle.inserting.specs.declared.Way.the-variants.{Simple, Search}
-use Rattle.inserting.specs.Insert.{Points, NearColumns, ClosestOf, InsertedSimple, QueryOf, Inserted}
+use Rattle.boxes.specs.Covering.{JoinedUnder}
+use Rattle.inserting.specs.Insert.{Points, NearColumns, ClosestOf, InsertedSimple, QueryOf, Asked, Covered}
 
 -- ---- at the closest node
 points-of : {t : Tree} {k : Counts} {c : Store} → Stores t k c → Points (t .nodes) (k .nodes) (c .rows .xs) (c .rows .ys)
@@ -40,6 +42,7 @@ module _ {q : Point} {k : Counts} {c : Store} (v : Standing Anything 1 q k c) wh
   near-columns =
       record {
         some = omega (arith, v .stores .size, v .formed .linked .some);
+        few = v .small;
         in-xs = omega (arith, v .room);
         in-ys = omega (arith, v .room, v .sized .rows .ys);
         near = λ i h. subst (Within reach) (sym (points-of (v .stores) .points i h)) (v .formed .near i);
@@ -67,48 +70,59 @@ module _ {q : Point} {k : Counts} {c : Store} (v : Standing Anything 1 q k c) wh
           sized = sized-terminal (v .tree) (v .formed) k c (v .stores) _ (v .sized) (omega (arith, v .room)) p (in-tree (v .tree) (v .formed) (v .stores)) q 0 0 refl c′ o;
         })
 
--- ---- by the search
-module _ {k : Counts} {c : Store} (a : Query) (v : Standing (QueryOf a) 2 (a .point) k c) where
+-- ---- either way
+module _ {k : Counts} {c : Store} (a : Query) (lows highs : List ℤ) (way : Way) (v : Standing (Asked way a lows highs) 2 (a .point) k c) where
   pub by-simple : Standing Anything 1 (a .point) k c
   by-simple = weaker v (λ h. tt) (omega arith)
 
-  pub did-by-simple : (way : Way) → way ≡ Simple → (ks : List ℤ) (r : Counts) (c′ : Store) → InsertedSimple (a .point) k c r c′ → Inserted way ks a k c r c′
-  did-by-simple way e ks r c′ o = subst (λ (x : Way). Inserted x ks a k c r c′) (sym e) (record { stores = λ t f h s. o .stores t f tt s; sized = o .sized })
+  pub did-by-simple : way ≡ Simple → (ks : List ℤ) (r : Counts) (c′ : Store) (lows′ highs′ : List ℤ) → InsertedSimple (a .point) k c r c′ → Covered way ks a k c lows highs r c′ lows′ highs′
+  did-by-simple e ks r c′ lows′ highs′ o =
+      subst (λ (x : Way). Covered x ks a k c lows highs r c′ lows′ highs′) (sym e)
+      (record { inserted = record { stores = λ t f h s. o .stores t f tt s; sized = o .sized }; covers = λ t f h s w. tt })
 
-  module _ (w : ℕ) (ew : w ≡ k .nodes) where
-    pub ready : Ready w a (c .rows .xs) (c .rows .ys) (c .rows .path) (c .links .last) (c .links .prev)
-    ready =
-        record {
-          nodes = v .tree .nodes;
-          size = v .stores .size ∙ sym ew;
-          small = omega (arith, v .small);
-          kept = kept (v .tree) (v .formed) (few v) _ (columnsOf c) (sized-columns (v .sized)) (v .stores .keeps) (omega (arith, v .stores .size, v .room));
-          tree = walks (v .tree) (v .formed) (few v);
-          within = v .within;
-        }
+  pub as-search : way ≡ Search → Standing (Asked Search a lows highs) 2 (a .point) k c
+  as-search e = subst (λ (x : Way). Standing (Asked x a lows highs) 2 (a .point) k c) e v
 
-    module _ (ks : List ℤ) (j : Join) (joins : Joins w a (c .rows .xs) (c .rows .ys) (c .rows .path) (c .links .last) (c .links .prev) ks j) where
-      found-is : (t : Tree) → WellFormed t → QueryOf a t → Stores t k c → T.find (T.blocked (keepoutsOf ks)) (t .nodes) (t .limit) (t .allowed) (a .point) ≡ joinOf j
-      found-is t f query s =
-          let small : length (t .nodes) ≤ mostNodes = omega (arith, s .size, v .small) in
-          (λ i. T.find (T.blocked (keepoutsOf ks)) (t .nodes) (query .limit i) (query .allowed i) (a .point))
-          ∙ sym (joins (t .nodes) (s .size ∙ sym ew) (walks t f small) (kept t f small _ (columnsOf c) (sized-columns (v .sized)) (s .keeps) (omega (arith, s .size, v .room))))
+-- ---- by the search
+most : (x : T.Join) → newNodes x ≤ 2
+most (T.onto p) = omega arith
+most (T.split p d) = omega arith
 
-      fits : (t : Tree) → WellFormed t → QueryOf a t → Stores t k c → At j t
-      fits t f query s = subst (Fits (t .nodes)) (found-is t f query s) (find-fits (t .nodes) (f .linked) (T.blocked (keepoutsOf ks)) (t .limit) (t .allowed) (a .point))
+module _ {k : Counts} {c : Store} (a : Query) (lows highs : List ℤ) (v : Standing (Asked Search a lows highs) 2 (a .point) k c) (w : ℕ) (ew : w ≡ k .nodes) where
+  pub ready : Ready w a (c .rows .xs) (c .rows .ys) (c .rows .path) (c .links .last) (c .links .prev) lows highs
+  ready =
+      record {
+        nodes = v .tree .nodes;
+        size = v .stores .size ∙ sym ew;
+        small = omega (arith, v .small);
+        kept = kept (v .tree) (v .formed) (few v) _ (columnsOf c) (sized-columns (v .sized)) (v .stores .keeps) (omega (arith, v .stores .size, v .room));
+        tree = walks (v .tree) (v .formed) (few v);
+        covers = v .when .1;
+        within = v .within;
+      }
 
-      pub by-search : Standing (At j) (newNodes (joinOf j)) (a .point) k c
-      by-search = weaker v (λ h. fits (v .tree) (v .formed) h (v .stores)) (most (joinOf j))
-        where
-          most : (x : T.Join) → newNodes x ≤ 2
-          most (T.onto p) = omega arith
-          most (T.split p d) = omega arith
+  module _ (ks : List ℤ) (j : Join) (joins : Joins w a (c .rows .xs) (c .rows .ys) (c .rows .path) (c .links .last) (c .links .prev) ks j) where
+    found-is : (t : Tree) → WellFormed t → QueryOf a t → Stores t k c → T.find (T.blocked (keepoutsOf ks)) (t .nodes) (t .limit) (t .allowed) (a .point) ≡ joinOf j
+    found-is t f query s =
+        let small : length (t .nodes) ≤ mostNodes = omega (arith, s .size, v .small) in
+        (λ i. T.find (T.blocked (keepoutsOf ks)) (t .nodes) (query .limit i) (query .allowed i) (a .point))
+        ∙ sym (joins (t .nodes) (s .size ∙ sym ew) (walks t f small) (kept t f small _ (columnsOf c) (sized-columns (v .sized)) (s .keeps) (omega (arith, s .size, v .room))))
 
-      pub did-search : (way : Way) → way ≡ Search → (r : Counts) (c′ : Store) → Joined j (a .point) k c r c′ → Inserted way ks a k c r c′
-      unfolding insert
-      did-search way e r c′ o =
-          subst (λ (x : Way). Inserted x ks a k c r c′) (sym e)
-          (record {
-            stores = λ t f h s. subst (λ (x : T.Join). Stores (TR.join t (a .point) x) r c′) (sym (found-is t f h s)) (o .stores t f (fits t f h s) s);
-            sized = o .sized;
-          })
+    fits : (t : Tree) → WellFormed t → QueryOf a t → Stores t k c → At j t
+    fits t f query s = subst (Fits (t .nodes)) (found-is t f query s) (find-fits (t .nodes) (f .linked) (T.blocked (keepoutsOf ks)) (t .limit) (t .allowed) (a .point))
+
+    pub may-join : Standing (At j) (newNodes (joinOf j)) (a .point) k c
+    may-join = weaker v (λ h. fits (v .tree) (v .formed) (h .0) (v .stores)) (most (joinOf j))
+
+    pub did-search : (way : Way) → way ≡ Search → (r : Counts) (c′ : Store) (lows′ highs′ : List ℤ) → JoinedUnder j (a .point) k c lows highs r c′ lows′ highs′
+        → Covered way ks a k c lows highs r c′ lows′ highs′
+    unfolding insert
+    did-search way e r c′ lows′ highs′ o =
+        subst (λ (x : Way). Covered x ks a k c lows highs r c′ lows′ highs′) (sym e)
+        (record {
+          inserted = record {
+            stores = λ t f h s. subst (λ (x : T.Join). Stores (TR.join t (a .point) x) r c′) (sym (found-is t f h s)) (o .joined .stores t f (fits t f h s) s);
+            sized = o .joined .sized;
+          };
+          covers = λ t f h s b. subst (λ (x : T.Join). Covers (TR.join t (a .point) x .nodes) lows′ highs′) (sym (found-is t f h s)) (o .covers t f (fits t f h s) s b);
+        })

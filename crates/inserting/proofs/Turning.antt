@@ -6,7 +6,7 @@ use native.Mathlib.Omega.{arith}
 use native.Mathlib.Numerals.{add-one}
 use lib.ListN.{length, getD, set, length-set}
 use lib.Seq.{getD-set-same}
-use lib.IntN.{ℤ}
+use lib.IntN.{ℤ, pos}
 use Rattle.geometry.specs.declared.Point.{Point}
 use Rattle.geometry.specs.Laws.{Within}
 use Rattle.tree.specs.Limits.{noNode, reach}
@@ -18,6 +18,7 @@ use Rattle.search.specs.declared.Query.{Query}
 use Rattle.search.specs.Branch.{keepoutsOf}
 use Rattle.search.specs.Walk.{pointAt}
 use Rattle.search.specs.Columns.{Chain}
+use Rattle.search.specs.Boxes.{Covers}
 use Rattle.joining.specs.declared.Counts.{Counts}
 use Rattle.joining.specs.declared.Row.{Row}
 use Rattle.joining.specs.Store.{setRow, Rows, Store, columnsOf, rowAt, nodeFrom, parentFrom, nodesOf, upTo, SizedStore, SizedRows, Keeps, Backs}
@@ -27,7 +28,7 @@ use Rattle.joining.proofs.Steps.{row-same, sized-row}
 use Rattle.joining.proofs.Reading.{sized-columns, nodes-are}
 use Rattle.inserting.specs.declared.Way.{Way}
 use Rattle.inserting.specs.declared.Way.the-variants.{Simple, Search}
-use Rattle.inserting.specs.Insert.{QueryOf, Inserted, stepOf}
+use Rattle.inserting.specs.Insert.{Inserted, stepOf, CoveredFor, Asked, Covered}
 use Rattle.inserting.specs.Route.{sourceRow, firsts, treeOf, treeIn, queryAt, Routable, Holds, Routed}
 
 -- ---- what holds before the loop, and at its head
@@ -38,12 +39,15 @@ pub record Begun (c : Store) (s : Point) (c′ : Store) : Type 0 where
   pub prev : c′ .links .prev ≡ c .links .prev
   pub next : c′ .links .next ≡ c .links .next
 
--- i terminals are in
-pub record Under (m : ℕ) (way : Way) (ks px py : List ℤ) (a : Query) (i : ℕ) (k : Counts) (c : Store) : Type 0 where
+-- i terminals are in; the columns have m numbers, and those of the boxes as many as they had
+pub record Under (m : ℕ) (lows₀ highs₀ : List ℤ) (way : Way) (ks px py : List ℤ) (a : Query) (i : ℕ) (k : Counts) (c : Store) (lows highs : List ℤ) : Type 0 where
   pub low : i ≤ length px
   pub next : k .terminal .0 ≡ i + 1
   pub sized : SizedStore m c
+  pub as-lows : length lows ≡ length lows₀
+  pub as-highs : length highs ≡ length highs₀
   pub holds : (w : ℕ) → Holds a w k c (treeOf way ks px py a w i)
+  pub covers : (w : ℕ) → CoveredFor way lows highs (treeOf way ks px py a w i)
 
 -- ---- one more terminal
 formed-step : (way : Way) (ks : List ℤ) (t : Tree) (q : Point) → WellFormed t → Within reach q → WellFormed (stepOf way ks t q)
@@ -127,9 +131,10 @@ module _ (way : Way) (ks px py : List ℤ) (a : Query) (c₀ : Store) (v : Routa
   wide-enough : 2 * length px + 1 ≤ m
   wide-enough = omega (arith, v .room, v .sized .links .prev)
 
-  pub starts : (c : Store) → Begun c₀ (a .point) c → Under m way ks px py a 0 (record { nodes = 1; steiner = record { 0 = 1 }; terminal = record { 0 = 1 } }) c
+  pub starts : (c : Store) → Begun c₀ (a .point) c → (lows highs : List ℤ) → Covers (rooted (a .point) (pos 0) 0 0 .nodes) lows highs
+      → Under m lows highs way ks px py a 0 (record { nodes = 1; steiner = record { 0 = 1 }; terminal = record { 0 = 1 } }) c lows highs
   unfolding treeOf upTo inserts
-  starts c b =
+  starts c b lows highs v₀ =
       record {
         low = omega arith;
         next = refl;
@@ -147,9 +152,16 @@ module _ (way : Way) (ks px py : List ℤ) (a : Query) (c₀ : Store) (v : Routa
           query = record { limit = refl; allowed = refl };
           farthest = refl;
         };
+        as-lows = refl;
+        as-highs = refl;
+        covers = λ w. covered way w;
       }
+    where
+      covered : (x : Way) (w : ℕ) → CoveredFor x lows highs (rooted (a .point) (a .allowed) w (a .limit))
+      covered Simple w = tt
+      covered Search w = v₀
 
-  module _ (i : ℕ) (k : Counts) (c : Store) (u : Under m way ks px py a i k c) where
+  module _ (lows₀ highs₀ : List ℤ) (i : ℕ) (k : Counts) (c : Store) (lows highs : List ℤ) (u : Under m lows₀ highs₀ way ks px py a i k c lows highs) where
     -- each terminal brought at most two nodes
     nodes-low : k .nodes ≤ 2 * i + 1
     nodes-low = let h = u .holds 0 in omega (arith, h .counted .size, h .counted .steiners, h .stores .size, h .stores .terminal, u .next)
@@ -178,15 +190,15 @@ module _ (way : Way) (ks px py : List ℤ) (a : Query) (c₀ : Store) (v : Routa
             }
 
     module _ (more : i < length px) (b : Query) (eb : b ≡ queryAt px py i a) where
-      pub stands : Standing (QueryOf b) 2 (b .point) k c
+      pub stands : Standing (Asked way b lows highs) 2 (b .point) k c
       stands =
           let h = u .holds 0 in
-          subst (λ (x : Query). Standing (QueryOf x) 2 (x .point) k c) (sym eb)
+          subst (λ (x : Query). Standing (Asked way x lows highs) 2 (x .point) k c) (sym eb)
           (record {
             tree = treeOf way ks px py a 0 i;
             formed = h .formed;
             stores = h .stores;
-            when = record { limit = h .query .limit; allowed = h .query .allowed };
+            when = (record { limit = h .query .limit; allowed = h .query .allowed }, u .covers 0);
             sized = subst (λ (n : ℕ). SizedStore n c) (sym (u .sized .rows .xs)) (u .sized);
             room = omega (arith, nodes-low, wide-enough, u .sized .rows .xs);
             small = omega (arith, nodes-low, v .few);
@@ -194,14 +206,22 @@ module _ (way : Way) (ks px py : List ℤ) (a : Query) (c₀ : Store) (v : Routa
             within = v .near i more;
           })
 
-      pub turn : (r : Counts) (c′ : Store) → Inserted way ks b k c r c′ → Under m way ks px py a (i + 1) r c′
-      turn r c′ o₀ =
-          let o : Inserted way ks (queryAt px py i a) k c r c′ = subst (λ (x : Query). Inserted way ks x k c r c′) eb o₀ in
+      pub turn : (r : Counts) (c′ : Store) (lows′ highs′ : List ℤ) → length lows′ ≡ length lows → length highs′ ≡ length highs
+          → Covered way ks b k c lows highs r c′ lows′ highs′ → Under m lows₀ highs₀ way ks px py a (i + 1) r c′ lows′ highs′
+      turn r c′ lows′ highs′ el eh o₀ =
+          let d : Covered way ks (queryAt px py i a) k c lows highs r c′ lows′ highs′ = subst (λ (x : Query). Covered way ks x k c lows highs r c′ lows′ highs′) eb o₀ in
+          let o = d .inserted in
           record {
             low = omega arith;
             next = omega (arith, o .stores (treeOf way ks px py a 0 i) (u .holds 0 .formed) (record { limit = u .holds 0 .query .limit; allowed = u .holds 0 .query .allowed }) (u .holds 0 .stores) .terminal, carried-step way ks (treeOf way ks px py a 0 i) (pointAt px py i) .next, u .holds 0 .stores .terminal, u .next);
             sized = subst (λ (n : ℕ). SizedStore n c′) (u .sized .rows .xs) (o .sized);
+            as-lows = el ∙ u .as-lows;
+            as-highs = eh ∙ u .as-highs;
             holds = λ w. subst (Holds a w r c′) (sym (tree-next way ks px py a w i)) (after (treeOf way ks px py a w i) w (u .holds w) o);
+            covers = λ w.
+                let h = u .holds w in
+                subst (CoveredFor way lows′ highs′) (sym (tree-next way ks px py a w i))
+                (d .covers (treeOf way ks px py a w i) (h .formed) (record { limit = h .query .limit; allowed = h .query .allowed }) (h .stores) (u .covers w));
           }
         where
           after : (t : Tree) (w : ℕ) → Holds a w k c t → Inserted way ks (queryAt px py i a) k c r c′ → Holds a w r c′ (stepOf way ks t (pointAt px py i))

@@ -1,20 +1,23 @@
 -- The two ways to insert a terminal, on columns.
-use Prim.Native.Nat.{ℕ, _≤_, _<_}
+use Prim.Native.Nat.{ℕ, _+_, _*_, _≤_, _<_}
 use mathlib.Core.Path.{_≡_}
 use mathlib.Core.List.{List}
 use lib.ListN.{length}
 use lib.IntN.{ℤ}
 use Rattle.geometry.specs.declared.Point.{Point}
+use Rattle.geometry.specs.Geometry.{dist}
 use Rattle.geometry.specs.Laws.{Within}
-use Rattle.tree.specs.Limits.{reach}
+use Rattle.tree.specs.Limits.{reach, mostNodes}
 use Rattle.tree.specs.Tree.{Node, Tree, nodeAt}
 use Rattle.tree.specs.Route.{closest, insert, insertSimple}
+use Rattle.tree.specs.WellFormed.{WellFormed}
 use Rattle.search.specs.declared.Query.{Query}
 use Rattle.search.specs.Branch.{keepoutsOf}
 use Rattle.search.specs.Walk.{pointAt}
+use Rattle.search.specs.Boxes.{Covers}
 use Rattle.joining.specs.declared.Counts.{Counts}
 use Rattle.joining.specs.Store.{Store}
-use Rattle.joining.specs.Standing.{Grows, Anything}
+use Rattle.joining.specs.Standing.{Stores, Grows, Anything}
 use Rattle.inserting.specs.declared.Way.{Way}
 use Rattle.inserting.specs.declared.Way.the-variants.{Simple, Search}
 
@@ -24,9 +27,18 @@ pub record Points (ns : List Node) (n : ℕ) (xs ys : List ℤ) : Type 0 where
   pub size : length ns ≡ n
   pub points : (i : ℕ) → i < n → pointAt xs ys i ≡ nodeAt ns i .point
 
+-- more than the highest index of a node
+abbrev pub indices : ℕ
+indices = 256
+
+-- node i in the order of distance to q, then of index
+abbrev pub rankOf : List ℤ → List ℤ → Point → ℕ → ℕ
+rankOf xs ys q i = dist (pointAt xs ys i) q * indices + i
+
 -- the points of n nodes, one at least, and q are within the limit
 pub record NearColumns (n : ℕ) (xs ys : List ℤ) (q : Point) : Type 0 where
   pub some : 0 < n
+  pub few : n ≤ mostNodes
   pub in-xs : n ≤ length xs
   pub in-ys : n ≤ length ys
   pub near : (i : ℕ) → i < n → Within reach (pointAt xs ys i)
@@ -54,3 +66,18 @@ stepOf Search ks = insert (keepoutsOf ks)
 -- the query's point has been inserted
 abbrev pub Inserted : Way → List ℤ → Query → Counts → Store → Counts → Store → Type 0
 Inserted way ks a = Grows (QueryOf a) (λ t. stepOf way ks t (a .point))
+
+-- ---- the boxes
+-- the search is to find boxes that cover the tree
+abbrev pub CoveredFor : Way → List ℤ → List ℤ → Tree → Type 0
+CoveredFor Simple lows highs t = Unit {0}
+CoveredFor Search lows highs t = Covers (t .nodes) lows highs
+
+-- what a way asks of a tree
+abbrev pub Asked : Way → Query → List ℤ → List ℤ → Tree → Type 0
+Asked way a lows highs t = QueryOf a t × CoveredFor way lows highs t
+
+-- the query's point has been inserted, and the boxes cover it
+pub record Covered (way : Way) (ks : List ℤ) (a : Query) (k : Counts) (c : Store) (lows highs : List ℤ) (k′ : Counts) (c′ : Store) (lows′ highs′ : List ℤ) : Type 0 where
+  pub inserted : Inserted way ks a k c k′ c′
+  pub covers : (t : Tree) → WellFormed t → QueryOf a t → Stores t k c → CoveredFor way lows highs t → CoveredFor way lows′ highs′ (stepOf way ks t (a .point))

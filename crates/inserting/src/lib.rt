@@ -7,13 +7,16 @@ use tree::NodeIndex;
 use tree::SteinerNumber;
 use tree::TerminalNumber;
 ghost use mathlib.Core.Path.{_≡_};
-ghost use Prim.Native.Nat.{ℕ, _<_};
+ghost use Prim.Native.Nat.{ℕ, _<_, min};
 ghost use lib.ListN.{length, set};
-ghost use Rattle.tree.specs.Limits.{noNode};
+ghost use Rattle.geometry.specs.Laws.{Within};
+ghost use Rattle.tree.specs.Limits.{reach, noNode};
+ghost use Rattle.search.specs.Walk.{pointAt};
 ghost use Rattle.joining.specs.Links.{links};
 ghost use Rattle.joining.specs.Store.{rowsOf, store, setRow, SizedRows};
 ghost use Rattle.joining.specs.Standing.{Standing, Anything};
-ghost use Rattle.inserting.specs.Insert.{NearColumns, ClosestOf, InsertedSimple, QueryOf, Inserted};
+ghost use Rattle.boxes.specs.Covering.{Room};
+ghost use Rattle.inserting.specs.Insert.{indices, rankOf, NearColumns, ClosestOf, InsertedSimple, Asked, Covered};
 ghost use Rattle.inserting.specs.Route.{sourceRow, queryAt, Routable, Routed};
 
 // How a terminal finds its place: at the closest node, or by the search.
@@ -27,26 +30,40 @@ const UNMEASURED: u32 = 0;
 
 // ---- one terminal
 
+// More than the highest index.
+const INDICES: u32 = 256;
+
+// Node i in the order of distance to q, then of index: one number, which loses neither.
+fn rank<'a>(xs: &'a [i32], ys: &'a [i32], i: usize, q: Point) -> u32
+    requires { ⌜ (i < length (now xs)) × (i < length (now ys)) ⌝ }
+    requires { ⌜ (i < indices) × Within reach (pointAt (now xs) (now ys) i) × Within reach q ⌝ }
+    ensures { λ r. ⌜ r ≡ rankOf (now (xs .entry)) (now (ys .entry)) q i ⌝ }
+{
+    let x = geometry::min_dist(xs[i], q.xcoord);
+    let y = geometry::min_dist(ys[i], q.ycoord);
+    (x + y) * INDICES + (i as u32)
+}
+
+fn lesser(a: u32, b: u32) -> u32
+    ensures { λ r. ⌜ r ≡ min a b ⌝ }
+{
+    if b < a { b } else { a }
+}
+
 // The node of least distance to q among the first n, the lowest index on ties.
 pub fn find_nearest_node<'a>(xs: &'a [i32], ys: &'a [i32], n: u16, q: Point) -> NodeIndex
     requires { ⌜ NearColumns n (now xs) (now ys) q ⌝ }
     ensures { λ r. ⌜ ClosestOf n n (now (xs .entry)) (now (ys .entry)) q (r .0) ⌝ }
 {
-    let s = search::point_at(xs, ys, 0);
-    let mut best: u16 = 0;
-    let mut least = search::distance(s, q);
-    let mut i: u16 = 1;
-    while i < n {
-        let m = search::wide(i);
-        let p = search::point_at(xs, ys, m);
-        let d = search::distance(p, q);
-        if d < least {
-            best = i;
-            least = d;
-        }
+    let m = search::wide(n);
+    let mut best = rank(xs, ys, 0, q);
+    let mut i: usize = 1;
+    while i < m {
+        let r = rank(xs, ys, i, q);
+        best = lesser(best, r);
         i = i + 1;
     }
-    NodeIndex(best)
+    NodeIndex((best % INDICES) as u16)
 }
 
 // A terminal at q joins the closest node; its path length stays 0.
@@ -79,7 +96,7 @@ pub fn insert_simple(
     joining::one_more(k)
 }
 
-// The next terminal joins, by one way or the other.
+// The next terminal joins, by one way or the other. The boxes are read and kept by the search alone.
 pub fn insert_terminal(
     xs: &mut [i32],
     ys: &mut [i32],
@@ -90,21 +107,23 @@ pub fn insert_terminal(
     last: &mut [u16],
     prev: &mut [u16],
     next: &mut [u16],
+    lows: &mut [i32],
+    highs: &mut [i32],
     k: Counts,
     way: Way,
-    query: Query,
+    a: Query,
     ks: &[i32],
 ) -> Counts
-    requires { ⌜ Standing (QueryOf query) 2 (query .point) k (store (rowsOf (now xs) (now ys) (now path) (now parent) (now kind) (now number)) (links (now last) (now prev) (now next))) ⌝ }
-    ensures { λ r. ⌜ Inserted way (now (ks .entry)) query k (store (rowsOf (now (xs .entry)) (now (ys .entry)) (now (path .entry)) (now (parent .entry)) (now (kind .entry)) (now (number .entry))) (links (now (last .entry)) (now (prev .entry)) (now (next .entry)))) r (store (rowsOf (now (xs .exit)) (now (ys .exit)) (now (path .exit)) (now (parent .exit)) (now (kind .exit)) (now (number .exit))) (links (now (last .exit)) (now (prev .exit)) (now (next .exit)))) ⌝ }
+    requires { ⌜ Standing (Asked way a (now lows) (now highs)) 2 (a .point) k (store (rowsOf (now xs) (now ys) (now path) (now parent) (now kind) (now number)) (links (now last) (now prev) (now next))) × Room (length (now xs)) (now lows) (now highs) ⌝ }
+    ensures { λ r. ⌜ Covered way (now (ks .entry)) a k (store (rowsOf (now (xs .entry)) (now (ys .entry)) (now (path .entry)) (now (parent .entry)) (now (kind .entry)) (now (number .entry))) (links (now (last .entry)) (now (prev .entry)) (now (next .entry)))) (now (lows .entry)) (now (highs .entry)) r (store (rowsOf (now (xs .exit)) (now (ys .exit)) (now (path .exit)) (now (parent .exit)) (now (kind .exit)) (now (number .exit))) (links (now (last .exit)) (now (prev .exit)) (now (next .exit)))) (now (lows .exit)) (now (highs .exit)) ⌝ }
 {
-    let q = query.point;
+    let q = a.point;
     match way {
         Way::Simple => insert_simple(xs, ys, path, parent, kind, number, last, prev, next, k, q),
         Way::Search => {
             let n = search::wide(k.nodes);
-            let j = search::find_insertion_point(n, query, xs, ys, path, last, prev, ks);
-            joining::join(
+            let j = search::find_insertion_point(n, a, xs, ys, path, last, prev, lows, highs, ks);
+            boxes::join(
                 xs,
                 ys,
                 path,
@@ -114,6 +133,8 @@ pub fn insert_terminal(
                 last,
                 prev,
                 next,
+                lows,
+                highs,
                 k,
                 q,
                 j,
@@ -176,17 +197,20 @@ pub fn route_sorted<'a>(
     last: &mut [u16],
     prev: &mut [u16],
     next: &mut [u16],
+    lows: &mut [i32],
+    highs: &mut [i32],
     px: &'a [i32],
     py: &'a [i32],
     ks: &'a [i32],
     way: Way,
     a: Query,
 ) -> Counts
-    requires { ⌜ Routable (now px) (now py) a (store (rowsOf (now xs) (now ys) (now path) (now parent) (now kind) (now number)) (links (now last) (now prev) (now next))) ⌝ }
+    requires { ⌜ Routable (now px) (now py) a (store (rowsOf (now xs) (now ys) (now path) (now parent) (now kind) (now number)) (links (now last) (now prev) (now next))) × Room (length (now xs)) (now lows) (now highs) ⌝ }
     ensures { λ r. ⌜ Routed way (now (ks .entry)) (now (px .entry)) (now (py .entry)) a r (store (rowsOf (now (xs .exit)) (now (ys .exit)) (now (path .exit)) (now (parent .exit)) (now (kind .exit)) (now (number .exit))) (links (now (last .exit)) (now (prev .exit)) (now (next .exit)))) ⌝ }
 {
     let s = a.point;
     store_source(xs, ys, path, parent, kind, number, last, s);
+    boxes::cover_source(lows, highs, s);
     let steiner = SteinerNumber(1);
     let terminal = TerminalNumber(1);
     let mut k = Counts {
@@ -207,6 +231,8 @@ pub fn route_sorted<'a>(
             last,
             prev,
             next,
+            lows,
+            highs,
             k,
             way,
             b,

@@ -1,5 +1,5 @@
 -- An output, refused or written, by its length; or by m, how long it is by the same writer on a buffer of its own.
-use mathlib.Core.Path.{_≡_, ap, _∙_}
+use mathlib.Core.Path.{_≡_, ap, subst, _∙_}
 use mathlib.Core.Bool.{true, false}
 use mathlib.Core.List.{List, _++_}
 use Prim.Native.Nat.{ℕ, _+_, _≤_, _<_}
@@ -9,6 +9,7 @@ use lib.Dec.{leb}
 use borrow.Author.Tests.{le-leb, lt-leb}
 use Rattle.wire.specs.Puts.{Puts, lastPlace, puts-room}
 use Rattle.output.specs.Answer.{noRoom, answerOf, contentOf, Answers}
+use Rattle.output.specs.declared.Answer.{Answer}
 use Rattle.output.specs.declared.Answer.the-variants.{Wrote, Refused}
 
 module _ {xs : List ℕ} (out : List ℕ) where
@@ -32,3 +33,7 @@ module _ {xs none none′ : List ℕ} {m : ℕ} (measured : Puts none 0 xs none�
 
   pub written : {out′ : List ℕ} {r : ℕ} → m ≤ length out → Puts out 0 xs out′ r → Answers xs out (Wrote r) out′
   written h p = whole out (omega (arith, measured .to)) p
+
+-- what is written, said in other words
+pub answers-of : {xs ys out out′ : List ℕ} {r : Answer} → xs ≡ ys → Answers xs out r out′ → Answers ys out r out′
+answers-of {out = out} {out′} {r} e a = subst (λ (l : List ℕ). Answers l out r out′) e a

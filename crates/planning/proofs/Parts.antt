@@ -9,7 +9,7 @@ use lib.ListN.{length, take, drop, length-append}
 use lib.Seq.{take-append-seam}
 use lib.Dec.{leb}
 use borrow.Author.Tests.{le-leb, lt-leb}
-use Rattle.wire.specs.Puts.{Puts, puts-as, puts-then, puts-room, puts-length}
+use Rattle.wire.specs.Puts.{Puts, puts-as, puts-then, puts-length}
 use Rattle.tree.specs.Tree.{Tree, total}
 use Rattle.tree.specs.Measures.{worst}
 use Rattle.text.specs.Text.{textOf}
@@ -22,6 +22,7 @@ use Rattle.global_router.specs.Stored.{treeOf}
 use Rattle.global_router.specs.Calls.{Outcomes, answerOf}
 use Rattle.output.specs.Answer.{noRoom, contentOf, Answers}
 use Rattle.output.specs.Answer as O
+use Rattle.output.proofs.Bytes.{put-first}
 use Rattle.output.specs.declared.Answer.{Answer}
 use Rattle.output.specs.declared.Answer.the-variants.{Wrote, Refused}
 use Rattle.planning.specs.Output.{mostText, mostOutput, refusalLine, figuresOf, treeOutput, outputFor, outputOf}
@@ -35,9 +36,8 @@ pub record Front (xs out : List ℕ) (n : ℕ) : Type 0 where
 -- of what was put there
 put-front : {xs out out′ : List ℕ} {n : ℕ} → Puts out 0 xs out′ n → length xs ≤ length out → Front xs out′ n
 put-front {xs} {out} {out′} {n} p h =
-    let w = puts-room p (omega arith) in
-    let e : n ≡ length xs = omega (arith, w .1) in
-    record { low = omega (arith, e, puts-length p); text = (λ i. take (e i) (w .0 i)) ∙ take-append-seam xs (drop (0 + length xs) out) }
+    let (e, t) = put-first p h in
+    record { low = omega (arith, e, puts-length p); text = ap (λ (k : ℕ). take k out′) e ∙ t }
 
 -- the number in an answer, and whether it wrote
 abbrev numberIn : Answer → ℕ

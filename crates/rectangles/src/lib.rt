@@ -12,6 +12,12 @@ pub struct Flat {
     pub count: usize,
 }
 
+// The first `count` of a list, for a caller that has its rectangles by value.
+pub struct Rectangles {
+    pub list: [Rectangle; ROOM],
+    pub count: usize,
+}
+
 fn none() -> Flat
     ensures { λ r. ⌜ Gathers [] r ⌝ }
 {

@@ -89,6 +89,8 @@ pub fn plan(px: &mut [i32], py: &mut [i32], ks: &[i32], s: Point, mode: Mode) ->
     let mut last = [0u16; tree::MOST_NODES];
     let mut prev = [0u16; tree::MOST_NODES];
     let mut next = [0u16; tree::MOST_NODES];
+    let mut lows = [0i32; boxes::BOUNDS];
+    let mut highs = [0i32; boxes::BOUNDS];
     let k = inserting::route_sorted(
         &mut xs,
         &mut ys,
@@ -99,6 +101,8 @@ pub fn plan(px: &mut [i32], py: &mut [i32], ks: &[i32], s: Point, mode: Mode) ->
         &mut last,
         &mut prev,
         &mut next,
+        &mut lows,
+        &mut highs,
         px,
         py,
         ks,

@@ -16,10 +16,6 @@ mostBytes = 4024
 abbrev pub mostListed : ℕ
 mostListed = 250
 
--- the numbers of 255 keepouts
-abbrev pub mostNumbers : ℕ
-mostNumbers = 1020
-
 -- a text and its line
 abbrev pub mostAnswer : ℕ
 mostAnswer = 65552

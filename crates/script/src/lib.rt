@@ -3,12 +3,15 @@
 // A field past a script's end reads as 0: no bytes are refused here.
 use editing::NodeType;
 use editing::ParentName;
+use geometry::Interval;
 use geometry::Point;
+use geometry::Rectangle;
 use global_router::Edited;
 use global_router::GlobalRoutingTree;
 use global_router::Outcome;
 use nodes::Lookup;
 use output::Answer;
+use rectangles::Rectangles;
 use tree::NodeIndex;
 use tree::NodeName;
 use tree::SteinerNumber;
@@ -16,8 +19,9 @@ use tree::TerminalNumber;
 ghost use mathlib.Core.Path.{_≡_};
 ghost use Prim.Native.Nat.{_+_, _<_, _≤_};
 ghost use lib.ListN.{length};
+ghost use Rattle.rectangles.specs.Rectangles.{room};
 ghost use Rattle.global_router.specs.Stored.{Stored};
-ghost use Rattle.script.specs.Runs.{mostText, mostBytes, mostListed, mostNumbers, mostAnswer, Counts, Runs};
+ghost use Rattle.script.specs.Runs.{mostText, mostBytes, mostListed, mostAnswer, Counts, Runs};
 
 const HEADER_SIZE: usize = 16;
 
@@ -31,9 +35,6 @@ const MOST_TEXT: usize = 65536;
 const MOST_BYTES: usize = 4024;
 
 const MOST_LISTED: usize = 250;
-
-// The numbers of 255 keepouts.
-const MOST_NUMBERS: usize = 1020;
 
 const NEWLINE: u8 = 10;
 
@@ -55,12 +56,6 @@ fn list_buffer() -> [u16; MOST_LISTED]
     ensures { λ r. ⌜ mostListed ≡ length r ⌝ }
 {
     [0; MOST_LISTED]
-}
-
-fn number_buffer() -> [i32; MOST_NUMBERS]
-    ensures { λ r. ⌜ mostNumbers ≡ length r ⌝ }
-{
-    [0; MOST_NUMBERS]
 }
 
 // Room for the longest answer: a text with its line.
@@ -152,17 +147,40 @@ fn keepout_count(record: &[u8]) -> usize
     wire::byte_at(record, 3) as usize
 }
 
-// The numbers of as many keepouts as a record may have.
-fn keepouts_in(record: &[u8]) -> [i32; MOST_NUMBERS]
-    ensures { λ r. ⌜ mostNumbers ≡ length r ⌝ }
+fn interval_at(record: &[u8], at: usize) -> Interval
+    requires { ⌜ at < mostAnswer ⌝ }
 {
-    let mut numbers = number_buffer();
-    let mut i: usize = 0;
-    while i < MOST_NUMBERS {
-        numbers[i] = wire::i32_at(record, RECORD_SIZE + 4 * i);
+    Interval {
+        lb: wire::i32_at(record, at),
+        ub: wire::i32_at(record, at + 4),
+    }
+}
+
+fn keepout_at(record: &[u8], i: usize) -> Rectangle
+    requires { ⌜ i < room ⌝ }
+{
+    let at = RECORD_SIZE + KEEPOUT_SIZE * i;
+    let x = interval_at(record, at);
+    let y = interval_at(record, at + 8);
+    Rectangle {
+        xcoord: x,
+        ycoord: y,
+    }
+}
+
+// As many as there is room for: of more, the call refuses these as too many.
+fn keepouts_in(record: &[u8]) -> Rectangles {
+    let first = keepout_at(record, 0);
+    let mut list = [first; rectangles::ROOM];
+    let mut i: usize = 1;
+    while i < rectangles::ROOM {
+        list[i] = keepout_at(record, i);
         i += 1;
     }
-    numbers
+    Rectangles {
+        list: list,
+        count: keepout_count(record),
+    }
 }
 
 // ---- edits
@@ -196,26 +214,18 @@ fn insert_node_on_branch(t: GlobalRoutingTree, record: &[u8]) -> Edited
     t.insert_node_on_branch(kind, point, start, end)
 }
 
-// Calls 4 and 5, with the numbers of the record's keepouts.
-fn insert_by_search(t: GlobalRoutingTree, record: &[u8], call: u8, numbers: &[i32]) -> Edited
-    requires { ⌜ Stored t ⌝ }
-    ensures { λ r. ⌜ Stored (r .tree) ⌝ }
-{
-    let point = point_in(record);
-    if call == 4 {
-        return t.insert_terminal_with_steiner_flat(point, numbers);
-    }
-    let allowance = wire::i32_at(record, 20);
-    t.insert_terminal_with_constraints_flat(point, allowance, numbers)
-}
-
+// Calls 4 and 5.
 fn insert_with_keepouts(t: GlobalRoutingTree, record: &[u8], call: u8) -> Edited
     requires { ⌜ Stored t ⌝ }
     ensures { λ r. ⌜ Stored (r .tree) ⌝ }
 {
-    let numbers = keepouts_in(record);
-    let n = 4 * keepout_count(record);
-    insert_by_search(t, record, call, &numbers[..n])
+    let point = point_in(record);
+    let keepouts = keepouts_in(record);
+    if call == 4 {
+        return listed::insert_terminal_with_steiner(t, point, keepouts);
+    }
+    let allowance = wire::i32_at(record, 20);
+    listed::insert_terminal_with_constraints(t, point, allowance, keepouts)
 }
 
 // ---- lines
@@ -235,36 +245,22 @@ fn count_of(t: GlobalRoutingTree) -> u8
     wire::byte_at(&bytes, 0)
 }
 
-fn put_count(out: &mut [u8], t: GlobalRoutingTree) -> usize
-    requires { ⌜ Stored t ⌝ }
-{
-    let n = count_of(t);
+fn put_count(out: &mut [u8], n: u8) -> usize {
     put_word(out, b"ok ", n as u32)
 }
 
-fn put_edited(out: &mut [u8], e: Edited) -> usize
-    requires { ⌜ Stored (e .tree) ⌝ }
-{
-    let answer = e.answer;
+// Of an edit after which the tree has n nodes.
+fn put_edited(out: &mut [u8], answer: editing::Answer, n: u8) -> usize {
     match answer {
-        editing::Answer::Refused(n) => planning::put_refusal(out, 0, n),
-        editing::Answer::Inserted(_) => {
-            let t = e.tree;
-            put_count(out, t)
-        }
+        editing::Answer::Refused(k) => planning::put_refusal(out, 0, k),
+        editing::Answer::Inserted(_) => put_count(out, n),
     }
 }
 
-fn put_outcome(out: &mut [u8], o: Outcome) -> usize
-    requires { ⌜ Stored (o .tree) ⌝ }
-{
-    let answer = o.answer;
+fn put_outcome(out: &mut [u8], answer: global_router::Answer, n: u8) -> usize {
     match answer {
-        global_router::Answer::Refused(n) => planning::put_refusal(out, 0, n),
-        global_router::Answer::Done => {
-            let t = o.tree;
-            put_count(out, t)
-        }
+        global_router::Answer::Refused(k) => planning::put_refusal(out, 0, k),
+        global_router::Answer::Done => put_count(out, n),
     }
 }
 
@@ -473,9 +469,10 @@ fn edit_step(t: GlobalRoutingTree, record: &[u8], call: u8, next: usize, out: &m
     ensures on { λ r. ⌜ r .next ≡ next ⌝ }
 {
     let e = edit(t, record, call);
-    let n = put_edited(out, e);
-    let written = within(n, out);
     let tree = e.tree;
+    let answer = e.answer;
+    let n = put_edited(out, answer, count_of(tree));
+    let written = within(n, out);
     Progress {
         tree: tree,
         written: written,
@@ -490,7 +487,7 @@ fn optimize_step(t: GlobalRoutingTree, next: usize, out: &mut [u8]) -> Progress
     ensures on { λ r. ⌜ r .next ≡ next ⌝ }
 {
     let tree = t.optimize_steiner_points();
-    let n = put_count(out, tree);
+    let n = put_count(out, count_of(tree));
     let written = within(n, out);
     Progress {
         tree: tree,
@@ -513,6 +510,19 @@ fn ask_step(t: GlobalRoutingTree, record: &[u8], call: u8, next: usize, out: &mu
     }
 }
 
+// Runs a record; the next one stands at a place.
+fn run(t: GlobalRoutingTree, record: &[u8], call: u8, next: usize, out: &mut [u8]) -> Progress
+    requires { ⌜ Stored t ⌝ }
+    ensures runs { λ r. ⌜ Runs (now (out .exit)) r ⌝ }
+    ensures on { λ r. ⌜ r .next ≡ next ⌝ }
+{
+    match call {
+        1..=5 => edit_step(t, record, call, next, out),
+        6 => optimize_step(t, next, out),
+        _ => ask_step(t, record, call, next, out),
+    }
+}
+
 // Runs the record that stands at a place.
 pub fn step(t: GlobalRoutingTree, script: &[u8], at: usize, out: &mut [u8]) -> Progress
     requires { ⌜ Stored t ⌝ }
@@ -524,11 +534,7 @@ pub fn step(t: GlobalRoutingTree, script: &[u8], at: usize, out: &mut [u8]) -> P
     let call = wire::byte_at(record, 0);
     let size = RECORD_SIZE + KEEPOUT_SIZE * keepout_count(record);
     let next = after(script, at, size);
-    match call {
-        1..=5 => edit_step(t, record, call, next, out),
-        6 => optimize_step(t, next, out),
-        _ => ask_step(t, record, call, next, out),
-    }
+    run(t, record, call, next, out)
 }
 
 // ---- the start
@@ -581,11 +587,11 @@ pub fn begin(script: &[u8], out: &mut [u8]) -> Progress
     ensures { λ r. ⌜ Runs (now (out .exit)) r ⌝ }
 {
     let o = start(script);
-    let n = put_outcome(out, o);
-    let written = within(n, out);
-    let answer = o.answer;
-    let next = records_of(script, answer);
     let tree = o.tree;
+    let answer = o.answer;
+    let n = put_outcome(out, answer, count_of(tree));
+    let written = within(n, out);
+    let next = records_of(script, answer);
     Progress {
         tree: tree,
         written: written,

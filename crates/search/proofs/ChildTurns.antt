@@ -1,7 +1,7 @@
 -- The loop over the children of a node: its start, a turn, its end.
 use Prim.Native.Nat.{ℕ, suc, _+_, _≤_, _<_}
 use mathlib.Core.Path.{_≡_, refl, ap, sym, _∙_, subst}
-use mathlib.Core.Bool.{true, false}
+use mathlib.Core.Bool.{Bool, true, false}
 use mathlib.Core.List.{List, []}
 use mathlib.Core.Logic.{inl, inr}
 use native.Mathlib.Omega.{arith}
@@ -12,30 +12,30 @@ use Rattle.search.specs.declared.Best.{Best}
 use Rattle.search.specs.declared.Query.{Query}
 use Rattle.search.specs.declared.NodeView.{NodeView}
 use Rattle.search.specs.declared.Examined.{Examined}
-use Rattle.search.specs.Walk.{examineChildren, afterBranch}
-use Rattle.search.specs.Columns.{chain, Has, Linked, stackOf, Pushes}
-use Rattle.search.specs.Branch.{examineBranch}
+use Rattle.search.specs.Walk.{afterBranch}
+use Rattle.search.specs.Columns.{chain, Has, Linked, stackOf}
+use Rattle.search.specs.Thin.{thinBranch, thinChildren, Pushes}
 use Rattle.search.proofs.Chains.{Unrolled, stack-push, ended}
 
-module _ (ks : List Rectangle) (a : Query) (P : NodeView) (view : ℕ → NodeView) (prev : List ℕ) (first : ℕ) (b : Best) (st₀ : List ℕ) (from : ℕ) where
+module _ (ks : List Rectangle) (a : Query) (view : ℕ → NodeView) (wanted : Best → ℕ → Bool) (P : NodeView) (prev : List ℕ) (first : ℕ) (b : Best) (st₀ : List ℕ) (from : ℕ) where
   pub record Turn (st : List ℕ) (found : Best) (top c : ℕ) : Type 0 where
     pub linked : Linked prev c
     pub part : (x : ℕ) → Has x (chain prev c) → Has x (chain prev first)
     pub size : length st ≡ length st₀
     pub room : top + length (chain prev c) ≤ from + length (chain prev first)
-    pub is : examineChildren ks a view P (chain prev c) (record { found = found; stack = stackOf st top })
-        ≡ examineChildren ks a view P (chain prev first) (record { found = b; stack = stackOf st₀ from })
+    pub is : thinChildren ks a view wanted P (chain prev c) (record { found = found; stack = stackOf st top })
+        ≡ thinChildren ks a view wanted P (chain prev first) (record { found = b; stack = stackOf st₀ from })
 
   pub starts : Linked prev first → Turn st₀ b from first
   starts h = record { linked = h; part = λ x z. z; size = refl; room = omega arith; is = refl }
 
   module _ (st : List ℕ) (found : Best) (top c : ℕ) (v : Turn st found top c) where
-    pub ends : length prev ≤ noNode → c ≡ noNode → Pushes ks a P view (chain prev first) b st₀ from found st top
-    unfolding examineChildren
+    pub ends : length prev ≤ noNode → c ≡ noNode → Pushes ks a view wanted P (chain prev first) b st₀ from found st top
+    unfolding thinChildren
     ends few e =
         let z : chain prev c ≡ [] = ended prev c few e in
         record {
-          is = ap (λ (cs : List ℕ). examineChildren ks a view P cs (record { found = found; stack = stackOf st top })) (sym z) ∙ v .is;
+          is = ap (λ (cs : List ℕ). thinChildren ks a view wanted P cs (record { found = found; stack = stackOf st top })) (sym z) ∙ v .is;
           fits = omega (arith, v .room);
         }
 
@@ -43,13 +43,13 @@ module _ (ks : List Rectangle) (a : Query) (P : NodeView) (view : ℕ → NodeVi
     unfolding Has
     is-child u = v .part c (subst (Has c) (sym (u .is)) (inl refl))
 
-    module _ (u : Unrolled prev c) (to : NodeView) (eto : to ≡ view c) (s : Examined) (es : s ≡ examineBranch ks a P to found) where
-      one : examineChildren ks a view P (chain prev (getD prev c 0)) (afterBranch ks a view s c (stackOf st top))
-          ≡ examineChildren ks a view P (chain prev first) (record { found = b; stack = stackOf st₀ from })
-      unfolding examineChildren
+    module _ (u : Unrolled prev c) (s : Examined) (es : s ≡ thinBranch ks a view wanted P c found) where
+      one : thinChildren ks a view wanted P (chain prev (getD prev c 0)) (afterBranch ks a view s c (stackOf st top))
+          ≡ thinChildren ks a view wanted P (chain prev first) (record { found = b; stack = stackOf st₀ from })
+      unfolding thinChildren
       one =
-          ap (λ (x : Examined). examineChildren ks a view P (chain prev (getD prev c 0)) (afterBranch ks a view x c (stackOf st top))) (es ∙ ap (λ (x : NodeView). examineBranch ks a P x found) eto)
-          ∙ ap (λ (cs : List ℕ). examineChildren ks a view P cs (record { found = found; stack = stackOf st top })) (sym (u .is)) ∙ v .is
+          ap (λ (x : Examined). thinChildren ks a view wanted P (chain prev (getD prev c 0)) (afterBranch ks a view x c (stackOf st top))) es
+          ∙ ap (λ (cs : List ℕ). thinChildren ks a view wanted P cs (record { found = found; stack = stackOf st top })) (sym (u .is)) ∙ v .is
 
       tail : (x : ℕ) → Has x (chain prev (getD prev c 0)) → Has x (chain prev first)
       unfolding Has
@@ -62,7 +62,7 @@ module _ (ks : List Rectangle) (a : Query) (P : NodeView) (view : ℕ → NodeVi
       less i e = rw e (omega (arith, shorter))
 
       module _ (st′ : List ℕ) (top′ i : ℕ) (ei : i ≡ c) where
-        pub pushes : s .clear ≡ true → top < length st → st′ ≡ set st top c → top′ ≡ top + 1 → Turn st′ (s .found) top′ (getD prev i 0)
+        pub pushes : s .pushed ≡ true → top < length st → st′ ≡ set st top c → top′ ≡ top + 1 → Turn st′ (s .found) top′ (getD prev i 0)
         pushes t h e₁ e₂ =
             rw (ei, e₁, e₂)
             (record {
@@ -73,7 +73,7 @@ module _ (ks : List Rectangle) (a : Query) (P : NodeView) (view : ℕ → NodeVi
               is = rw (stack-push st top c h) (rw t at one);
             })
 
-        pub skips : s .clear ≡ false → st′ ≡ st → top′ ≡ top → Turn st′ (s .found) top′ (getD prev i 0)
+        pub skips : s .pushed ≡ false → st′ ≡ st → top′ ≡ top → Turn st′ (s .found) top′ (getD prev i 0)
         skips t e₁ e₂ =
             rw (ei, e₁, e₂)
             (record { linked = u .after; part = tail; size = v .size; room = omega (arith, shorter, v .room); is = rw t at one })

@@ -40,7 +40,7 @@ stops-is : (q P C n : Point) (k : Rectangle) → T.stops q P C n k ≡ stopsBy k
 unfolding T.stops stopsBy
 stops-is q P C n k = refl
 
-blocked-is : (ks : List Rectangle) (q P C n : Point) → T.blocked ks q P C n ≡ blockedBy ks n (box n q) (box n P) (box n C)
+blocked-is : (ks : List Rectangle) (q P C n : Point) → T.blocked ks q P C n ≡ blockedBy ks n q P C
 unfolding T.blocked
 blocked-is ks q P C n = λ i. T.anyOf (λ (k : Rectangle). stops-is q P C n k i) ks
 
@@ -100,10 +100,10 @@ module _ (ks : List Rectangle) (ns : List Node) (a : Query) where
     examine-is =
         (λ i. cond (blocked-is ks (a .point) (nodeAt ns p .point) (nodeAt ns c .point) m i) (walkOf e)
         (record { found = judge-is p c (e .found) i; stack = c ∷ e .stack }))
-        ∙ by (blockedBy ks m (box m (a .point)) (box m (nodeAt ns p .point)) (box m (nodeAt ns c .point))) (judge a (viewOf ns p) (viewOf ns c) m (e .found))
+        ∙ by (blockedBy ks m (a .point) (nodeAt ns p .point) (nodeAt ns c .point)) (judge a (viewOf ns p) (viewOf ns c) m (e .found))
       where
         by : (t : Bool) (g : Best) → cond t (walkOf e) (record { found = bestOf g; stack = c ∷ e .stack })
-            ≡ walkOf (afterBranch ks a (viewOf ns) (cond t (record { found = e .found; clear = false }) (record { found = g; clear = true })) c (e .stack))
+            ≡ walkOf (afterBranch ks a (viewOf ns) (cond t (record { found = e .found; pushed = false }) (record { found = g; pushed = true })) c (e .stack))
         by true g = refl
         by false g = refl
 

@@ -2,7 +2,7 @@
 use Prim.Native.Nat.{ℕ, zero, suc, _≤_, _<_}
 use mathlib.Core.Path.{_≡_, refl, ap, sym, _∙_, subst}
 use mathlib.Core.Bool.{Bool, true, false, cond}
-use mathlib.Core.List.{List, [], _∷_, _++_}
+use mathlib.Core.List.{List, [], _∷_, _++_, reverse, reverse-cons}
 use mathlib.Core.Logic.{inl, inr, ⊎-elim}
 use native.Mathlib.Omega.{arith}
 use native.Mathlib.Decide.{decLe}
@@ -38,6 +38,11 @@ has-split c [] b f g h = g h
 has-split c (x ∷ a) b f g h = ⊎-elim (λ (e : x ≡ c). f (inl e)) (λ (r : Has c (a ++ b)). has-split c a b (λ z. f (inr z)) g r) h
 
 -- the first goes to where b starts
+pub has-reverse : (c : ℕ) (xs : List ℕ) → Has c (reverse xs) → Has c xs
+unfolding Has
+has-reverse c [] h = h
+has-reverse c (x ∷ xs) h = has-split c (reverse xs) (x ∷ []) (λ z. inr (has-reverse c xs z)) (λ z. ⊎-elim (λ (e : x ≡ c). inl e) (λ (w : ⊥). absurd w) z) (subst (Has c) (reverse-cons x xs) h)
+
 pub has-moved : (c x : ℕ) (a b : List ℕ) → Has c (a ++ x ∷ b) → Has c (x ∷ a ++ b)
 unfolding Has
 has-moved c x a b h = has-split c a (x ∷ b) (λ z. inr (has-left c a b z)) (λ z. ⊎-elim (λ (e : x ≡ c). inl e) (λ (r : Has c b). inr (has-right c a b r)) z) h

@@ -21,7 +21,7 @@ module _ (ks : List Rectangle) (a : Query) (view : ℕ → NodeView) (P : NodeVi
   children-distinct : (done cs : List ℕ) (e : Walk) → Distinct (cs ++ (e .stack ++ done)) → Distinct (examineChildren ks a view P cs e .stack ++ done)
   unfolding examineChildren Distinct
   children-distinct done [] e d = d
-  children-distinct done (c ∷ cs) e d = children-distinct done cs _ (by (examineBranch ks a P (view c) (e .found) .clear))
+  children-distinct done (c ∷ cs) e d = children-distinct done cs _ (by (examineBranch ks a P (view c) (e .found) .pushed))
     where
       by : (t : Bool) → Distinct (cs ++ (cond t (c ∷ e .stack) (e .stack) ++ done))
       by true = distinct-moved c cs (e .stack ++ done) d
@@ -30,7 +30,7 @@ module _ (ks : List Rectangle) (a : Query) (view : ℕ → NodeView) (P : NodeVi
   pub children-has : {X : Type 0} (x : ℕ) (cs : List ℕ) (e : Walk) → (Has x cs → X) → (Has x (e .stack) → X) → Has x (examineChildren ks a view P cs e .stack) → X
   unfolding examineChildren Has
   children-has x [] e f g h = g h
-  children-has {X} x (c ∷ cs) e f g h = children-has x cs _ (λ z. f (inr z)) (λ z. by (examineBranch ks a P (view c) (e .found) .clear) z) h
+  children-has {X} x (c ∷ cs) e f g h = children-has x cs _ (λ z. f (inr z)) (λ z. by (examineBranch ks a P (view c) (e .found) .pushed) z) h
     where
       by : (t : Bool) → Has x (cond t (c ∷ e .stack) (e .stack)) → X
       by true z = ⊎-elim (λ (w : c ≡ x). f (inl w)) (λ (w : Has x (e .stack)). g w) z

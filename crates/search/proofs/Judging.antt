@@ -1,26 +1,28 @@
--- The tests of one branch, and what is found with it, are those of the definitions: L ≤ allowed on signed numbers, the take, the branch that is blocked or not.
-use Prim.Native.Nat.{ℕ, _+_, _<_}
+-- The tests of one branch, and what is found with it, are those of the definitions: L ≤ allowed on signed numbers, the take.
+use Prim.Native.Nat.{ℕ, _+_, _≤_, _<_}
 use mathlib.Core.Path.{_≡_, refl, ap, sym, _∙_, subst}
 use mathlib.Core.Bool.{Bool, true, false, _||_}
-use mathlib.Core.List.{List}
 use native.Mathlib.Omega.{arith}
+use mathlib.Core.List.{List}
 use lib.Dec.{leb, T}
 use lib.IntN.{ℤ, pos, negsuc, natAbs}
 use lib.Signed.{leZ, ltZ, nonNeg}
-use borrow.Author.Tests.{ltb-true}
+use borrow.Author.Tests.{ltb-true, leb-true, le-ltb}
 use mir.Syntax.{w32}
 use mir.Val.{Fits, toZ, ofZ}
 use mir.ValLaws.{toZ-ofZ}
 use Rattle.geometry.specs.declared.Point.{Point}
 use Rattle.geometry.specs.declared.Rectangle.{Rectangle}
-use Rattle.geometry.specs.Geometry.{dist, box}
-use Rattle.geometry.specs.Signed.{In32}
-use Rattle.tree.specs.Search.{nearestOn}
+use Rattle.geometry.specs.Geometry.{dist}
+use Rattle.geometry.specs.Signed.{In32, and-left, and-right}
 use Rattle.search.specs.declared.Join.{Join}
 use Rattle.search.specs.declared.Best.{Best}
 use Rattle.search.specs.declared.Query.{Query}
 use Rattle.search.specs.declared.NodeView.{NodeView}
-use Rattle.search.specs.Branch.{examineBranch, blockedBy, isBlocked, judge, takeIt, joinAt, pathTo, either}
+use Rattle.search.specs.declared.Judged.{Judged}
+use Rattle.search.specs.declared.Examined.{Examined}
+use Rattle.search.specs.Branch.{judge, takeIt, joinAt, pathTo, either}
+use Rattle.search.specs.Thin.{isPast, untaken, judgedAt, judged, settled, thinBranch}
 
 -- ---- L ≤ allowed
 never-allowed : (l : ℕ) (z : ℤ) → ltZ z (pos 0) ≡ true → false ≡ leZ (pos l) z
@@ -52,6 +54,20 @@ module _ (z : ℤ) (f : In32 z) (e : ltZ (toZ w32 (ofZ w32 z)) (pos 0) ≡ false
   pub allowed-yes : (l : ℕ) → leb l (natAbs (toZ w32 (ofZ w32 z))) ≡ leZ (pos l) z
   allowed-yes l = ap (λ (y : ℤ). leb l (natAbs y)) home ∙ abs-le l z (rw home at e)
 
+-- ---- the take rule
+-- a branch within the allowance was found, at a distance of at most d
+pub record Found (b : Best) (d : ℕ) : Type 0 where
+  pub within : b .within ≡ true
+  pub near : b .best ≤ d
+
+pub found : (b : Best) (d : ℕ) → isPast b d ≡ true → Found b d
+found b d e = record { within = and-left (b .within) (leb (b .best) d) e; near = leb-true _ _ (and-right (b .within) (leb (b .best) d) e) }
+
+-- then a branch at d or farther is not taken
+pub takes-none : (w : Bool) (D L limit d : ℕ) (b : Best) → Found b d → d ≤ D → takeIt w D L limit b ≡ false
+takes-none true D L limit d b f h = rw (f .within, le-ltb D (b .best) (omega (arith, f .near)))
+takes-none false D L limit d b f h = rw (f .within)
+
 -- ---- the judge
 module _ (a : Query) (P C : NodeView) (n : Point) (b : Best) (d e : ℕ) (w t : Bool)
     (hd : d ≡ dist n (a .point)) (he : e ≡ dist (P .point) n) (hw : w ≡ leZ (pos (P .path + e + d)) (a .allowed))
@@ -65,24 +81,30 @@ module _ (a : Query) (P C : NodeView) (n : Point) (b : Best) (d e : ℕ) (w t : 
   is-taken : takeIt (leZ (pos (pathTo (a .point) P n)) (a .allowed)) (dist n (a .point)) (pathTo (a .point) P n) (a .limit) b ≡ t
   is-taken = (λ i. takeIt (is-within i) (sym hd i) (is-path i) (a .limit) b) ∙ sym ht
 
-  pub judge-yes : (j : Join) (v : Bool) → t ≡ true → j ≡ joinAt n P C → v ≡ either w (b .within) → record { join = j; best = d; within = v } ≡ judge a P C n b
+  judge-yes : (j : Join) (v : Bool) → t ≡ true → j ≡ joinAt n P C → v ≡ either w (b .within) → record { join = j; best = d; within = v } ≡ judge a P C n b
   unfolding judge
   judge-yes j v et ej ev = rw (is-taken, et) (λ i. record { join = ej i; best = hd i; within = (ev ∙ ap (λ (x : Bool). x || b .within) (sym is-within)) i })
 
-  pub judge-no : t ≡ false → b ≡ judge a P C n b
+  judge-no : t ≡ false → b ≡ judge a P C n b
   unfolding judge
   judge-no et = rw (is-taken, et)
 
--- ---- a branch
-module _ (ks : List Rectangle) (a : Query) (P C : NodeView) (b : Best) (n : Point) (A E F : Rectangle) (r : Bool)
-    (hn : n ≡ nearestOn (P .point) (C .point) (a .point)) (hA : A ≡ box n (a .point)) (hE : E ≡ box n (P .point)) (hF : F ≡ box n (C .point))
-    (hr : r ≡ blockedBy ks n A E F) where
-  is-blocked : r ≡ isBlocked ks a P C
-  unfolding isBlocked
-  is-blocked = hr ∙ (λ i. blockedBy ks n (hA i) (hE i) (hF i)) ∙ (λ i. blockedBy ks (hn i) (box (hn i) (a .point)) (box (hn i) (P .point)) (box (hn i) (C .point)))
+  pub judged-yes : (j : Join) (v : Bool) → t ≡ true → j ≡ joinAt n P C → v ≡ either w (b .within)
+      → record { near = n; found = record { join = j; best = d; within = v }; taken = true } ≡ judgedAt a P C b n
+  judged-yes j v et ej ev = λ i. record { near = n; found = judge-yes j v et ej ev i; taken = (sym et ∙ sym is-taken) i }
 
-  pub exam-blocked : r ≡ true → record { found = b; clear = false } ≡ examineBranch ks a P C b
-  exam-blocked e = rw (← is-blocked, e)
+  pub judged-no : t ≡ false → untaken n b ≡ judgedAt a P C b n
+  judged-no et = λ i. record { near = n; found = judge-no et i; taken = (sym et ∙ sym is-taken) i }
 
-  pub exam-open : r ≡ false → (g : Best) → g ≡ judge a P C n b → record { found = g; clear = true } ≡ examineBranch ks a P C b
-  exam-open e g h = rw (← is-blocked, e) (λ i. record { found = (h ∙ ap (λ (x : Point). judge a P C x b) hn) i; clear = true })
+-- a branch that is past what was found
+pub judged-past : (a : Query) (P C : NodeView) (n : Point) (b : Best) (d : ℕ) → d ≡ dist n (a .point) → isPast b d ≡ true → untaken n b ≡ judgedAt a P C b n
+judged-past a P C n b d hd e =
+    judged-no a P C n b d (dist (P .point) n) _ _ hd refl refl refl
+    (takes-none (leZ (pos (P .path + dist (P .point) n + d)) (a .allowed)) d (P .path + dist (P .point) n + d) (a .limit) d b (found b d e) (omega arith))
+
+-- ---- a branch, part by part
+module _ (ks : List Rectangle) (a : Query) (view : ℕ → NodeView) (wanted : Best → ℕ → Bool) (P : NodeView) (c : ℕ) (b : Best) where
+  pub thin-is : (C : NodeView) (j : Judged) (m : Bool) (s : Examined) → C ≡ view c → j ≡ judged a P C b → m ≡ wanted (j .found) c → s ≡ settled ks a P C b j m → s ≡ thinBranch ks a view wanted P c b
+  thin-is C j m s eC ej em es =
+      es ∙ (λ i. settled ks a P C b (ej i) ((em ∙ ap (λ (x : Judged). wanted (x .found) c) ej) i))
+      ∙ ap (λ (x : NodeView). settled ks a P x b (judged a P x b) (wanted (judged a P x b .found) c)) eC

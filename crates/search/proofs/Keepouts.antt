@@ -9,10 +9,13 @@ use lib.ListN.{length, getD, drop, length-drop}
 use lib.IntN.{ℤ, pos}
 use lib.Seq.{drop-cons}
 use Rattle.geometry.specs.declared.Point.{Point}
+use Rattle.geometry.specs.declared.Interval.{Interval}
 use Rattle.geometry.specs.declared.Rectangle.{Rectangle}
-use Rattle.geometry.specs.Geometry.{contains, blocks}
+use Rattle.geometry.specs.Geometry.{inside, contains, covers, hull, box, blocks}
+use Rattle.geometry.specs.Intervals.{covers-hull}
+use Rattle.geometry.specs.Signed.{no-way}
 use Rattle.tree.specs.Search.{anyOf}
-use Rattle.search.specs.Branch.{keepoutsOf, stopsBy, keepoutAt}
+use Rattle.search.specs.Branch.{keepoutsOf, stopsBy, stopsBranch, besideOf, keepoutAt}
 
 -- ---- one keepout: the four tests in turn
 module _ (k : Rectangle) (n : Point) (a b c : Rectangle) where
@@ -33,6 +36,36 @@ module _ (k : Rectangle) (n : Point) (a b c : Rectangle) where
       pub hit-4 : blocks k b ≡ false → blocks k c ≡ stopsBy k n a b c
       unfolding stopsBy
       hit-4 e = rw (e₁, e₂, e)
+
+-- ---- a keepout whose intervals have neither coordinate of n stops nothing
+-- such an interval contains none that has the coordinate
+outside-covers : (i : Interval) (a b : ℤ) → inside i a ≡ false → covers i (hull a b) ≡ false
+outside-covers i a b e = by (covers i (hull a b)) refl
+  where
+    by : (t : Bool) → covers i (hull a b) ≡ t → t ≡ false
+    by true h = sym (covers-hull i a b h) ∙ e
+    by false h = refl
+
+module _ (k : Rectangle) (n : Point) (ex : inside (k .xcoord) (n .xcoord) ≡ false) (ey : inside (k .ycoord) (n .ycoord) ≡ false) where
+  blocks-none : (m : Point) → blocks k (box n m) ≡ false
+  unfolding blocks
+  blocks-none m = rw (outside-covers (k .xcoord) (n .xcoord) (m .xcoord) ex, outside-covers (k .ycoord) (n .ycoord) (m .ycoord) ey)
+
+  contains-none : contains k n ≡ false
+  unfolding contains
+  contains-none = rw ex
+
+  pub stops-none : (q P C : Point) → false ≡ stopsBranch n q P C k
+  unfolding stopsBy
+  stops-none q P C = rw (contains-none, blocks-none q, blocks-none P, blocks-none C)
+
+pub beside-not : (k : Rectangle) (n q P C : Point) → besideOf k n ≡ false → false ≡ stopsBranch n q P C k
+beside-not k n q P C e = by (inside (k .xcoord) (n .xcoord)) (inside (k .ycoord) (n .ycoord)) refl refl e
+  where
+    by : (s t : Bool) → inside (k .xcoord) (n .xcoord) ≡ s → inside (k .ycoord) (n .ycoord) ≡ t → (s || t) ≡ false → false ≡ stopsBranch n q P C k
+    by true t ex ey h = no-way (sym h)
+    by false true ex ey h = no-way (sym h)
+    by false false ex ey h = stops-none k n ex ey q P C
 
 -- ---- the list of keepouts, four numbers each
 next : (l : List ℤ) (i j : ℕ) → i < length l → j ≡ i + 1 → drop i l ≡ getD l i (pos 0) ∷ drop j l

@@ -2,6 +2,8 @@ pub mod Judging
 pub mod Keepouts
 pub mod Chains
 pub mod ChildTurns
+pub mod Thinning
+pub mod Subtrees
 pub mod WalkTurns
 pub mod Distinct
 pub mod Forest

@@ -8,10 +8,11 @@ use lib.ListN.{length, getD}
 use lib.IntN.{ℤ}
 use Rattle.geometry.specs.declared.Point.{Point}
 use Rattle.geometry.specs.declared.Rectangle.{Rectangle}
-use Rattle.geometry.specs.Geometry.{same}
+use mathlib.Core.Bool.{true}
+use Rattle.geometry.specs.Geometry.{same, contains}
 use Rattle.geometry.specs.Laws.{Within}
 use Rattle.tree.specs.Limits.{longestPath, reach, mostNodes}
-use Rattle.tree.specs.Tree.{Node}
+use Rattle.tree.specs.Tree.{Node, nodeAt}
 use Rattle.search.specs.declared.Join.{Join}
 use Rattle.search.specs.declared.Best.{Best}
 use Rattle.search.specs.declared.Query.{Query}
@@ -20,7 +21,9 @@ use Rattle.search.specs.Walk.{Walk, examineChildren, viewAt, walk, start
 use Rattle.search.specs.Branch.{keepoutsOf, examineBranch}
 use Rattle.search.specs.Columns.{Chain, Has, Distinct, childrenOf, TreeColumns, SafeOn, foundOn}
 use Rattle.search.specs.Find.{Forest, examined, joinOf, Kept, Ready, Joins, Walkable}
-use Rattle.search.proofs.Distinct.{pigeon}
+use Rattle.search.specs.Boxes.{boxAt, Covers}
+use Rattle.search.specs.Thin.{BoxColumns}
+use Rattle.search.proofs.Distinct.{pigeon, has-reverse}
 use Rattle.search.proofs.Chains.{chain-is}
 use Rattle.search.proofs.Defined.{viewOf, findIn, find-is}
 use Rattle.search.proofs.Forest.{safe-from-source, children-has}
@@ -85,6 +88,16 @@ module _ (ns : List Node) (xs ys : List ℤ) (path last prev : List ℕ) (k : Ke
           below = λ p c h z. forest .below p c h z;
         }
 
+  -- the boxes about its subtrees
+  pub boxes-on : (lows highs : List ℤ) → Covers ns lows highs → BoxColumns (length ns) xs ys last prev lows highs
+  boxes-on lows highs v =
+      record {
+        in-lows = v .in-lows;
+        in-highs = v .in-highs;
+        own = λ i h. subst (λ (p : Point). contains (boxAt lows highs i) p ≡ true) (sym (k .points i h)) (v .own i h);
+        below = λ p c h z. v .below p c h (has-reverse c (nodeAt ns p .children) (subst (Has c) (chains-are p h) z));
+      }
+
   pub safe-on : (room : ℕ) (a : Query) (ks : List ℤ) → length ns ≤ room → SafeOn room (length ns) a xs ys path last prev ks
   safe-on room a ks h = safe-from-source (keepoutsOf ks) a (viewAt xs ys path) (childrenOf last prev) (length ns) (length ns) room forest (omega arith) h (start a)
 
@@ -97,7 +110,7 @@ module _ (ns : List Node) (xs ys : List ℤ) (path last prev : List ℕ) (k : Ke
       (childrenOf last prev) (examined ns) chains-are (λ p c h z. forest .below p c h z) (length ns) (0 ∷ []) (start a)
       (λ x h. ⊎-elim (λ (z : 0 ≡ x). subst (λ (m : ℕ). m < length ns) z (t .forest .some)) (λ (z : ⊥). absurd z) h))
 
-module _ {n : ℕ} {a : Query} {xs ys : List ℤ} {path last prev : List ℕ} (v : Ready n a xs ys path last prev) where
+module _ {n : ℕ} {a : Query} {xs ys : List ℤ} {path last prev : List ℕ} {lows highs : List ℤ} (v : Ready n a xs ys path last prev lows highs) where
   pub ready-sound : TreeColumns n a xs ys path last prev
   ready-sound = subst (λ (m : ℕ). TreeColumns m a xs ys path last prev) (v .size) (sound (v .nodes) xs ys path last prev (v .kept) (v .tree) a (v .within))
 
@@ -105,6 +118,9 @@ module _ {n : ℕ} {a : Query} {xs ys : List ℤ} {path last prev : List ℕ} (v
   ready-safe ks =
       subst (λ (m : ℕ). SafeOn mostNodes m a xs ys path last prev ks) (v .size)
       (safe-on (v .nodes) xs ys path last prev (v .kept) (v .tree) mostNodes a ks (omega (arith, v .size, v .small)))
+
+  pub ready-boxes : BoxColumns n xs ys last prev lows highs
+  ready-boxes = subst (λ (m : ℕ). BoxColumns m xs ys last prev lows highs) (v .size) (boxes-on (v .nodes) xs ys path last prev (v .kept) (v .tree) lows highs (v .covers))
 
 module _ (n : ℕ) (a : Query) (xs ys : List ℤ) (path last prev : List ℕ) (ks : List ℤ) where
   pub joins : (r : Join) → r ≡ foundOn n a xs ys path last prev ks → Joins n a xs ys path last prev ks r

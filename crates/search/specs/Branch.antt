@@ -8,7 +8,7 @@ use lib.IntN.{ℤ, pos}
 use lib.Signed.{leZ}
 use Rattle.geometry.specs.declared.Point.{Point}
 use Rattle.geometry.specs.declared.Rectangle.{Rectangle}
-use Rattle.geometry.specs.Geometry.{dist, box, contains, blocks, same}
+use Rattle.geometry.specs.Geometry.{dist, box, inside, contains, blocks, same}
 use Rattle.geometry.specs.Laws.{Within}
 use Rattle.tree.specs.Limits.{longestPath, reach}
 use Rattle.tree.specs.Search.{nearestOn, anyOf}
@@ -24,8 +24,16 @@ use Rattle.search.specs.declared.Examined.{Examined}
 unfoldable pub stopsBy : Rectangle → Point → Rectangle → Rectangle → Rectangle → Bool
 stopsBy k n a b c = contains k n || (blocks k a || (blocks k b || blocks k c))
 
-abbrev pub blockedBy : List Rectangle → Point → Rectangle → Rectangle → Rectangle → Bool
-blockedBy ks n a b c = anyOf (λ (k : Rectangle). stopsBy k n a b c) ks
+-- a keepout against the branch from P to C, whose nearest point to q is n
+abbrev pub stopsBranch : Point → Point → Point → Point → Rectangle → Bool
+stopsBranch n q P C k = stopsBy k n (box n q) (box n P) (box n C)
+
+abbrev pub blockedBy : List Rectangle → Point → Point → Point → Point → Bool
+blockedBy ks n q P C = anyOf (stopsBranch n q P C) ks
+
+-- an interval of the keepout has the point's coordinate
+abbrev pub besideOf : Rectangle → Point → Bool
+besideOf k n = inside (k .xcoord) (n .xcoord) || inside (k .ycoord) (n .ycoord)
 
 -- the rectangles of a flat list: lower x, upper x, lower y, upper y
 unfoldable pub keepoutsOf : List ℤ → List Rectangle
@@ -53,21 +61,24 @@ takeIt w D L limit b = cond w (cond (b .within) (ltb D (b .best)) true) ((not (b
 abbrev pub pathTo : Point → NodeView → Point → ℕ
 pathTo q P n = P .path + dist (P .point) n + dist n q
 
+abbrev pub isTaken : Query → NodeView → Point → Best → Bool
+isTaken a P n b = takeIt (leZ (pos (pathTo (a .point) P n)) (a .allowed)) (dist n (a .point)) (pathTo (a .point) P n) (a .limit) b
+
 unfoldable pub judge : Query → NodeView → NodeView → Point → Best → Best
 judge a P C n b =
-    cond (takeIt (leZ (pos (pathTo (a .point) P n)) (a .allowed)) (dist n (a .point)) (pathTo (a .point) P n) (a .limit) b)
+    cond (isTaken a P n b)
     (record { join = joinAt n P C; best = dist n (a .point); within = leZ (pos (pathTo (a .point) P n)) (a .allowed) || b .within }) b
 
 -- the branch from P to C
 unfoldable pub isBlocked : List Rectangle → Query → NodeView → NodeView → Bool
 isBlocked ks a P C =
     let n = nearestOn (P .point) (C .point) (a .point) in
-    blockedBy ks n (box n (a .point)) (box n (P .point)) (box n (C .point))
+    blockedBy ks n (a .point) (P .point) (C .point)
 
 abbrev pub examineBranch : List Rectangle → Query → NodeView → NodeView → Best → Examined
 examineBranch ks a P C b =
-    cond (isBlocked ks a P C) (record { found = b; clear = false })
-    (record { found = judge a P C (nearestOn (P .point) (C .point) (a .point)) b; clear = true })
+    cond (isBlocked ks a P C) (record { found = b; pushed = false })
+    (record { found = judge a P C (nearestOn (P .point) (C .point) (a .point)) b; pushed = true })
 
 -- the points of a query and of a branch are within the limit, and its path fits
 pub record Near (a : Query) (P C : NodeView) : Type 0 where

@@ -1,5 +1,5 @@
 -- The walk over columns: links, and a stack in an array.
-use Prim.Native.Nat.{ℕ, zero, suc, _+_, _≤_, _<_}
+use Prim.Native.Nat.{ℕ, zero, suc, _≤_, _<_}
 use mathlib.Core.Path.{_≡_}
 use mathlib.Core.Bool.{cond}
 use mathlib.Core.List.{List, [], _∷_}
@@ -7,14 +7,11 @@ use mathlib.Core.Logic.{_⊎_}
 use lib.ListN.{length, getD}
 use lib.Dec.{eqb}
 use lib.IntN.{ℤ}
-use Rattle.geometry.specs.declared.Rectangle.{Rectangle}
 use Rattle.geometry.specs.Laws.{Within}
 use Rattle.tree.specs.Limits.{longestPath, reach, noNode}
 use Rattle.search.specs.declared.Join.{Join}
-use Rattle.search.specs.declared.Best.{Best}
 use Rattle.search.specs.declared.Query.{Query}
-use Rattle.search.specs.declared.NodeView.{NodeView}
-use Rattle.search.specs.Walk.{examineChildren, pointAt, viewAt, walk, Safe, start}
+use Rattle.search.specs.Walk.{pointAt, viewAt, walk, Safe, start}
 use Rattle.search.specs.Branch.{keepoutsOf}
 
 unfoldable pub Has : ℕ → List ℕ → Type 0
@@ -53,22 +50,6 @@ pub record InReach (xs ys : List ℤ) (path : List ℕ) (c : ℕ) : Type 0 where
   pub in-xs : c < length xs
   pub in-ys : c < length ys
   pub in-path : c < length path
-
--- the columns are as long as prev, and P and its children cs are near
-pub record NearChildren (a : Query) (P : NodeView) (xs ys : List ℤ) (path prev cs : List ℕ) : Type 0 where
-  pub in-xs : length prev ≤ length xs
-  pub in-ys : length prev ≤ length ys
-  pub in-path : length prev ≤ length path
-  pub few : length prev ≤ noNode
-  pub within : Within reach (a .point)
-  pub p : Within reach (P .point)
-  pub long : P .path ≤ longestPath
-  pub near : (i : ℕ) → Has i cs → Within reach (pointAt xs ys i)
-
--- what the loop over the children leaves
-pub record Pushes (ks : List Rectangle) (a : Query) (P : NodeView) (view : ℕ → NodeView) (cs : List ℕ) (b : Best) (st : List ℕ) (top : ℕ) (b′ : Best) (st′ : List ℕ) (top′ : ℕ) : Type 0 where
-  pub is : record { found = b′; stack = stackOf st′ top′ } ≡ examineChildren ks a view P cs (record { found = b; stack = stackOf st top })
-  pub fits : top′ ≤ top + length cs
 
 -- a node's children, from the last to the first
 abbrev pub childrenOf : List ℕ → List ℕ → ℕ → List ℕ

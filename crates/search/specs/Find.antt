@@ -14,6 +14,7 @@ use Rattle.search.specs.declared.Query.{Query}
 use Rattle.search.specs.Walk.{pointAt}
 use Rattle.search.specs.Branch.{keepoutsOf}
 use Rattle.search.specs.Columns.{Chain, Has, Distinct}
+use Rattle.search.specs.Boxes.{Covers}
 
 -- a node's children in the order in which they are examined, last to first
 abbrev pub examined : List Node → ℕ → List ℕ
@@ -50,14 +51,15 @@ pub record Walkable (ns : List Node) : Type 0 where
   pub near : (i : ℕ) → i < length ns → Within reach (nodeAt ns i .point)
   pub long : (i : ℕ) → i < length ns → nodeAt ns i .path ≤ longestPath
 
--- what the call of the search asks: columns that keep a tree of n nodes
-pub record Ready (n : ℕ) (a : Query) (xs ys : List ℤ) (path last prev : List ℕ) : Type 0 where
+-- what the call of the search asks: columns that keep a tree of n nodes, and boxes about its subtrees
+pub record Ready (n : ℕ) (a : Query) (xs ys : List ℤ) (path last prev : List ℕ) (lows highs : List ℤ) : Type 0 where
   pub nodes : List Node
   pub size : length nodes ≡ n
   pub small : n ≤ mostNodes
   pub kept : Kept nodes xs ys path last prev
   pub tree : Walkable nodes
   pub within : Within reach (a .point)
+  pub covers : Covers nodes lows highs
 
 -- and what it answers: whatever tree the columns keep, what document 01's search finds in it
 abbrev pub Joins : ℕ → Query → List ℤ → List ℤ → List ℕ → List ℕ → List ℕ → List ℤ → Join → Type 0

@@ -36,7 +36,7 @@ start a = record { join = Onto (nodeIndex 0); best = max (a .limit) 1; within = 
 module _ (ks : List Rectangle) (a : Query) (view : ℕ → NodeView) where
   -- a step's outcome on the stack
   abbrev pub afterBranch : Examined → ℕ → List ℕ → Walk
-  afterBranch s c l = record { found = s .found; stack = cond (s .clear) (c ∷ l) l }
+  afterBranch s c l = record { found = s .found; stack = cond (s .pushed) (c ∷ l) l }
 
   unfoldable pub examineChildren : NodeView → List ℕ → Walk → Walk
   examineChildren P [] e = e

@@ -13,9 +13,10 @@ ghost use Rattle.tree.specs.Limits.{reach};
 ghost use Rattle.geometry.specs.Laws.{Within};
 ghost use Rattle.geometry.specs.Geometry.{dist};
 ghost use Rattle.tree.specs.Search.{nearestOn};
-ghost use Rattle.search.specs.Branch.{takeIt, joinAt, judge, keepoutAt, keepoutsOf, blockedBy, stopsBy, Near, examineBranch, either};
+ghost use Rattle.search.specs.Branch.{takeIt, joinAt, keepoutAt, keepoutsOf, blockedBy, stopsBy, stopsBranch, besideOf, Near, either};
 ghost use Rattle.search.specs.Walk.{pointAt, viewAt};
-ghost use Rattle.search.specs.Columns.{NearChildren, InReach, Linked, chain, Pushes, TreeColumns, SafeOn, foundOn};
+ghost use Rattle.search.specs.Columns.{InReach, Linked, chain, TreeColumns, SafeOn, foundOn};
+ghost use Rattle.search.specs.Thin.{isPast, untaken, judgedAt, judged, settled, Boxed, boxFrom, isFar, isWanted, thinBranch, Child, NearChildren, Pushes, BoxColumns};
 ghost use Rattle.search.specs.Find.{Ready, Joins};
 
 // Where a point joins: at a node, or on the branch from a node to its child.
@@ -51,10 +52,17 @@ pub struct Pushed {
     pub top: usize,
 }
 
-// A branch examined: what is found with it, and whether no keepout blocks it.
+// A branch that no keepout is tested against yet: its nearest point, what is found if it is not blocked, and whether that is taken.
+pub struct Judged {
+    pub near: Point,
+    pub found: Best,
+    pub taken: bool,
+}
+
+// A branch examined: what is found with it, and whether its child is pushed.
 pub struct Examined {
     pub found: Best,
-    pub clear: bool,
+    pub pushed: bool,
 }
 
 // ---- points within the limit
@@ -133,28 +141,64 @@ fn either(a: bool, b: bool) -> bool
     b
 }
 
-// The best with an unblocked branch, whose nearest point is n.
-fn judge(query: Query, at: NodeView, to: NodeView, n: Point, b: Best) -> Best
+// Whether no branch at d or farther is taken: one within the allowance was found, no farther than d.
+fn is_past(b: Best, d: u64) -> bool
+    ensures { λ r. ⌜ r ≡ isPast b d ⌝ }
+{
+    let best = b.best as u64;
+    let past = best <= d;
+    if b.within { past } else { false }
+}
+
+// A branch that is not taken.
+fn untaken(n: Point, b: Best) -> Judged
+    ensures { λ r. ⌜ r ≡ untaken n b ⌝ }
+{
+    Judged {
+        near: n,
+        found: b,
+        taken: false,
+    }
+}
+
+// The branch from `at` to its child `to`, were it not blocked: n is its nearest point, d its distance.
+fn judge_at(query: Query, at: NodeView, to: NodeView, n: Point, d: u32, b: Best) -> Judged
     requires { ⌜ Near query at to ⌝ }
     requires { ⌜ Within reach n ⌝ }
-    ensures { λ r. ⌜ r ≡ judge query at to n b ⌝ }
+    requires { ⌜ d ≡ dist n (query .point) ⌝ }
+    ensures { λ r. ⌜ r ≡ judgedAt query at to b n ⌝ }
 {
-    let q = query.point;
-    let p = at.point;
-    let d = distance(n, q);
-    let e = distance(p, n);
+    let e = distance(at.point, n);
     let l = at.path + e + d;
     let w = is_allowed(l, query);
     if takes(w, d, l, query.limit, b) {
         let j = join_at(n, at, to);
         let v = either(w, b.within);
-        return Best {
+        let f = Best {
             join: j,
             best: d,
             within: v,
         };
+        return Judged {
+            near: n,
+            found: f,
+            taken: true,
+        };
     }
-    b
+    untaken(n, b)
+}
+
+// The same. Most branches are past what was found, and need no more than D.
+fn judge(query: Query, at: NodeView, to: NodeView, b: Best) -> Judged
+    requires { ⌜ Near query at to ⌝ }
+    ensures { λ r. ⌜ r ≡ judged query at to b ⌝ }
+{
+    let n = nearest_on(at.point, to.point, query.point);
+    let d = distance(n, query.point);
+    if is_past(b, d as u64) {
+        return untaken(n, b);
+    }
+    judge_at(query, at, to, n, d, b)
 }
 
 // ---- keepouts
@@ -173,6 +217,30 @@ fn stops(k: Rectangle, n: Point, a: Rectangle, b: Rectangle, c: Rectangle) -> bo
         return true;
     }
     k.blocks(c)
+}
+
+// Whether an interval of k has n's coordinate. Where neither has, k stops no branch: each box has n. Most keepouts are told by this.
+fn is_beside(k: Rectangle, n: Point) -> bool
+    ensures { λ r. ⌜ r ≡ besideOf k n ⌝ }
+{
+    let x = k.xcoord;
+    let y = k.ycoord;
+    let in_x = x.contains_value(n.xcoord);
+    let in_y = y.contains_value(n.ycoord);
+    if in_x { true } else { in_y }
+}
+
+// One keepout against the branch from p to c, whose nearest point to q is n.
+fn stops_branch(k: Rectangle, n: Point, q: Point, p: Point, c: Point) -> bool
+    ensures { λ r. ⌜ r ≡ stopsBranch n q p c k ⌝ }
+{
+    if is_beside(k, n) {
+        let a = n.hull_with(q);
+        let e = n.hull_with(p);
+        let f = n.hull_with(c);
+        return stops(k, n, a, e, f);
+    }
+    false
 }
 
 // The keepout whose four numbers start at i.
@@ -195,13 +263,13 @@ pub fn keepout_at(ks: &[i32], i: usize) -> Rectangle
 }
 
 // Whether any keepout stops the branch.
-fn blocked(ks: &[i32], n: Point, a: Rectangle, b: Rectangle, c: Rectangle) -> bool
-    ensures { λ r. ⌜ r ≡ blockedBy (keepoutsOf (now (ks .entry))) n a b c ⌝ }
+fn blocked(ks: &[i32], n: Point, q: Point, p: Point, c: Point) -> bool
+    ensures { λ r. ⌜ r ≡ blockedBy (keepoutsOf (now (ks .entry))) n q p c ⌝ }
 {
     let mut i: usize = 0;
     while i + 4 <= ks.len() {
         let k = keepout_at(ks, i);
-        if stops(k, n, a, b, c) {
+        if stops_branch(k, n, q, p, c) {
             return true;
         }
         i = i + 4;
@@ -209,28 +277,34 @@ fn blocked(ks: &[i32], n: Point, a: Rectangle, b: Rectangle, c: Rectangle) -> bo
     false
 }
 
-// The branch from `at` to its child `to`: skipped when it is blocked.
-fn examine(ks: &[i32], query: Query, at: NodeView, to: NodeView, b: Best) -> Examined
-    requires { ⌜ Near query at to ⌝ }
-    ensures { λ r. ⌜ r ≡ examineBranch (keepoutsOf (now (ks .entry))) query at to b ⌝ }
+// The branch from `at` to its child `to`, judged. Keepouts are tested only where it is taken or its child's subtree is wanted.
+fn settle(
+    ks: &[i32],
+    query: Query,
+    at: NodeView,
+    to: NodeView,
+    b: Best,
+    j: Judged,
+    wanted: bool,
+) -> Examined
+    ensures { λ r. ⌜ r ≡ settled (keepoutsOf (now (ks .entry))) query at to b j wanted ⌝ }
 {
-    let q = query.point;
-    let p = at.point;
-    let c = to.point;
-    let n = nearest_on(p, c, q);
-    let a = n.hull_with(q);
-    let e = n.hull_with(p);
-    let f = n.hull_with(c);
-    if blocked(ks, n, a, e, f) {
+    if either(j.taken, wanted) {
+        if blocked(ks, j.near, query.point, at.point, to.point) {
+            return Examined {
+                found: b,
+                pushed: false,
+            };
+        }
+        let g = j.found;
         return Examined {
-            found: b,
-            clear: false,
+            found: g,
+            pushed: wanted,
         };
     }
-    let g = judge(query, at, to, n, b);
     Examined {
-        found: g,
-        clear: true,
+        found: b,
+        pushed: false,
     }
 }
 
@@ -268,7 +342,83 @@ pub fn view_at<'a>(xs: &'a [i32], ys: &'a [i32], path: &'a [u32], c: NodeIndex) 
     }
 }
 
-// The branches to a node's children, from the last child to the first; each child whose branch is not blocked is pushed.
+// ---- subtrees
+
+// The box whose lower and upper numbers start at i.
+fn box_from<'a>(lows: &'a [i32], highs: &'a [i32], i: usize) -> Rectangle
+    requires { ⌜ (i + 2 ≤ length (now lows)) × (i + 2 ≤ length (now highs)) ⌝ }
+    ensures { λ r. ⌜ r ≡ boxFrom (now (lows .entry)) (now (highs .entry)) i ⌝ }
+{
+    let x = Interval {
+        lb: lows[i],
+        ub: highs[i],
+    };
+    let y = Interval {
+        lb: lows[i + 1],
+        ub: highs[i + 1],
+    };
+    Rectangle {
+        xcoord: x,
+        ycoord: y,
+    }
+}
+
+// Whether no branch below p is taken: the box about its subtree is past what was found.
+fn is_far<'a>(query: Query, b: Best, p: u16, lows: &'a [i32], highs: &'a [i32]) -> bool
+    requires { ⌜ Boxed (now lows) (now highs) p ⌝ }
+    ensures { λ r. ⌜ r ≡ isFar query (now (lows .entry)) (now (highs .entry)) b p ⌝ }
+{
+    let i = 2 * wide(p);
+    let r = box_from(lows, highs, i);
+    let d = r.min_dist_with(query.point);
+    is_past(b, d)
+}
+
+// Whether the subtree of p is to be walked: p has children, and they may have something nearer.
+fn is_wanted<'a>(
+    query: Query,
+    b: Best,
+    p: u16,
+    last: &'a [u16],
+    lows: &'a [i32],
+    highs: &'a [i32],
+) -> bool
+    requires { ⌜ (p < length (now last)) × Boxed (now lows) (now highs) p ⌝ }
+    ensures { λ r. ⌜ r ≡ isWanted query (now (last .entry)) (now (lows .entry)) (now (highs .entry)) b p ⌝ }
+{
+    let i = wide(p);
+    if last[i] == tree::NO_NODE {
+        return false;
+    }
+    let far = is_far(query, b, p, lows, highs);
+    !far
+}
+
+// The branch to the child c.
+fn examine<'a>(
+    c: u16,
+    b: Best,
+    query: Query,
+    at: NodeView,
+    xs: &'a [i32],
+    ys: &'a [i32],
+    path: &'a [u32],
+    last: &'a [u16],
+    lows: &'a [i32],
+    highs: &'a [i32],
+    ks: &'a [i32],
+) -> Examined
+    requires { ⌜ Child query at (now xs) (now ys) (now path) (now last) (now lows) (now highs) c ⌝ }
+    ensures { λ r. ⌜ r ≡ thinBranch (keepoutsOf (now (ks .entry))) query (viewAt (now (xs .entry)) (now (ys .entry)) (now (path .entry))) (isWanted query (now (last .entry)) (now (lows .entry)) (now (highs .entry))) at c b ⌝ }
+{
+    let to = view_at(xs, ys, path, NodeIndex(c));
+    let j = judge(query, at, to, b);
+    let g = j.found;
+    let wanted = is_wanted(query, g, c, last, lows, highs);
+    settle(ks, query, at, to, b, j, wanted)
+}
+
+// The branches to a node's children, from the last child to the first; each child whose branch is not blocked and whose subtree is wanted is pushed.
 fn examine_children<'a>(
     stack: &mut [u16],
     from: usize,
@@ -279,23 +429,25 @@ fn examine_children<'a>(
     xs: &'a [i32],
     ys: &'a [i32],
     path: &'a [u32],
+    last: &'a [u16],
     prev: &'a [u16],
+    lows: &'a [i32],
+    highs: &'a [i32],
     ks: &'a [i32],
 ) -> Pushed
-    requires { ⌜ NearChildren query at (now xs) (now ys) (now path) (now prev) (chain (now prev) first) ⌝ }
+    requires { ⌜ NearChildren query at (now xs) (now ys) (now path) (now last) (now prev) (now lows) (now highs) (chain (now prev) first) ⌝ }
     requires { ⌜ Linked (now prev) first ⌝ }
     requires { ⌜ from + length (chain (now prev) first) ≤ length (now stack) ⌝ }
-    ensures { λ r. ⌜ Pushes (keepoutsOf (now (ks .entry))) query at (viewAt (now (xs .entry)) (now (ys .entry)) (now (path .entry))) (chain (now (prev .entry)) first) b (now (stack .entry)) from (r .found) (now (stack .exit)) (r .top) ⌝ }
+    ensures { λ r. ⌜ Pushes (keepoutsOf (now (ks .entry))) query (viewAt (now (xs .entry)) (now (ys .entry)) (now (path .entry))) (isWanted query (now (last .entry)) (now (lows .entry)) (now (highs .entry))) at (chain (now (prev .entry)) first) b (now (stack .entry)) from (r .found) (now (stack .exit)) (r .top) ⌝ }
 {
     let mut found = b;
     let mut top = from;
     let mut c = first;
     while c != tree::NO_NODE {
-        let to = view_at(xs, ys, path, NodeIndex(c));
-        let step = examine(ks, query, at, to, found);
+        let step = examine(c, found, query, at, xs, ys, path, last, lows, highs, ks);
         let f = step.found;
         found = f;
-        if step.clear {
+        if step.pushed {
             stack[top] = c;
             top = top + 1;
         }
@@ -325,9 +477,12 @@ fn walk<'a>(
     path: &'a [u32],
     last: &'a [u16],
     prev: &'a [u16],
+    lows: &'a [i32],
+    highs: &'a [i32],
     ks: &'a [i32],
 ) -> Join
     requires { ⌜ TreeColumns n query (now xs) (now ys) (now path) (now last) (now prev) ⌝ }
+    requires { ⌜ BoxColumns n (now xs) (now ys) (now last) (now prev) (now lows) (now highs) ⌝ }
     requires { ⌜ 0 < length (now stack) ⌝ }
     requires { ⌜ SafeOn (length (now stack)) n query (now xs) (now ys) (now path) (now last) (now prev) (now ks) ⌝ }
     ensures { λ r. ⌜ r ≡ foundOn n query (now (xs .entry)) (now (ys .entry)) (now (path .entry)) (now (last .entry)) (now (prev .entry)) (now (ks .entry)) ⌝ }
@@ -348,7 +503,22 @@ fn walk<'a>(
         let at = view_at(xs, ys, path, NodeIndex(p));
         let i = wide(p);
         let first = last[i];
-        let r = examine_children(stack, top, found, query, at, first, xs, ys, path, prev, ks);
+        let r = examine_children(
+            stack,
+            top,
+            found,
+            query,
+            at,
+            first,
+            xs,
+            ys,
+            path,
+            last,
+            prev,
+            lows,
+            highs,
+            ks,
+        );
         let f = r.found;
         found = f;
         top = r.top;
@@ -367,11 +537,25 @@ pub fn find_insertion_point<'a>(
     path: &'a [u32],
     last: &'a [u16],
     prev: &'a [u16],
+    lows: &'a [i32],
+    highs: &'a [i32],
     ks: &'a [i32],
 ) -> Join
-    requires { ⌜ Ready n query (now xs) (now ys) (now path) (now last) (now prev) ⌝ }
+    requires { ⌜ Ready n query (now xs) (now ys) (now path) (now last) (now prev) (now lows) (now highs) ⌝ }
     ensures { λ r. ⌜ Joins n query (now (xs .entry)) (now (ys .entry)) (now (path .entry)) (now (last .entry)) (now (prev .entry)) (now (ks .entry)) r ⌝ }
 {
     let mut stack = [0u16; tree::MOST_NODES];
-    walk(&mut stack, n, query, xs, ys, path, last, prev, ks)
+    walk(
+        &mut stack,
+        n,
+        query,
+        xs,
+        ys,
+        path,
+        last,
+        prev,
+        lows,
+        highs,
+        ks,
+    )
 }

@@ -1,34 +1,24 @@
 // Terminals in two columns, sorted by distance from the source, then x, then y.
+// Within reach the three fit one number of 64 bits, their key, which orders as they do: keys are sorted, and read back.
 use geometry::Point;
 ghost use mathlib.Core.Path.{_≡_};
+ghost use mathlib.Core.List.{_++_};
 ghost use Prim.Native.Nat.{ℕ, _+_, _<_, _≤_};
-ghost use lib.ListN.{length, set};
-ghost use Rattle.tree.specs.Route.{ordered};
-ghost use Rattle.sorting.specs.Points.{pt, passes, Even, Settled, Sorted};
+ghost use lib.IntN.{pos, _-ℤ_};
+ghost use lib.ListN.{length, getD, set, take, drop};
+ghost use Rattle.geometry.specs.Geometry.{gap};
+ghost use Rattle.geometry.specs.Laws.{Within};
+ghost use Rattle.tree.specs.Limits.{reach, mostTerminals};
+ghost use Rattle.sorting.specs.Points.{pt, Even, Sorted};
+ghost use Rattle.sorting.specs.Keys.{least, part, keyOf, pointOf, Keyed, Read, passesKey, placeKey, sortKeys};
 
-// p stands no later than q.
-pub fn ordered(s: Point, p: Point, q: Point) -> bool
-    ensures { λ r. ⌜ r ≡ ordered s p q ⌝ }
-{
-    let d = s.min_dist_with(p);
-    let e = s.min_dist_with(q);
-    if d < e {
-        return true;
-    }
-    if e < d {
-        return false;
-    }
-    if p.xcoord < q.xcoord {
-        return true;
-    }
-    if q.xcoord < p.xcoord {
-        return false;
-    }
-    if q.ycoord < p.ycoord {
-        return false;
-    }
-    true
-}
+// No coordinate is less.
+const LEAST: i32 = -1000000;
+
+// A coordinate has 21 bits of a key.
+const PART: u64 = 2097152;
+
+// ---- points
 
 pub fn point_at<'a>(px: &'a [i32], py: &'a [i32], i: usize) -> Point
     requires { ⌜ (i < length (now px)) × (i < length (now py)) ⌝ }
@@ -50,48 +40,134 @@ fn put_point(px: &mut [i32], py: &mut [i32], i: usize, p: Point)
     py[i] = y;
 }
 
-fn passes<'a>(px: &'a [i32], py: &'a [i32], j: usize, p: Point, s: Point) -> bool
-    requires { ⌜ Even (now px) (now py) ⌝ }
-    requires { ⌜ j < length (now px) ⌝ }
-    ensures { λ r. ⌜ r ≡ passes (now (px .entry)) (now (py .entry)) j p s ⌝ }
+// ---- a key
+
+// A coordinate, counted from the least.
+fn part_of(z: i32) -> u64
+    ensures { λ r. ⌜ r ≡ gap z least ⌝ }
+{
+    geometry::min_dist(z, LEAST) as u64
+}
+
+fn key(s: Point, p: Point) -> u64
+    requires { ⌜ Within reach s × Within reach p ⌝ }
+    ensures { λ r. ⌜ r ≡ keyOf s p ⌝ }
+{
+    let d = s.min_dist_with(p);
+    let x = part_of(p.xcoord);
+    let y = part_of(p.ycoord);
+    (d * PART + x) * PART + y
+}
+
+fn coordinate(n: u64) -> i32
+    requires { ⌜ n < part ⌝ }
+    ensures { λ r. ⌜ r ≡ pos n -ℤ pos reach ⌝ }
+{
+    (n as i32) - tree::REACH
+}
+
+fn point_of(k: u64) -> Point
+    ensures { λ r. ⌜ r ≡ pointOf k ⌝ }
+{
+    let x = coordinate(k / PART % PART);
+    let y = coordinate(k % PART);
+    Point {
+        xcoord: x,
+        ycoord: y,
+    }
+}
+
+// ---- columns to keys, and back
+
+fn put_keys<'a>(px: &'a [i32], py: &'a [i32], s: Point, keys: &mut [u64])
+    requires { ⌜ Even (now px) (now py) × Within reach s ⌝ }
+    requires { ⌜ length (now keys) ≡ length (now px) ⌝ }
+    ensures { λ r. ⌜ Keyed (now (px .entry)) (now (py .entry)) s (length (now (px .entry))) (now (keys .exit)) ⌝ }
+{
+    let mut i: usize = 0;
+    while i < keys.len() {
+        let p = point_at(px, py, i);
+        keys[i] = key(s, p);
+        i = i + 1;
+    }
+}
+
+fn read_keys(keys: &[u64], px: &mut [i32], py: &mut [i32])
+    requires { ⌜ (length (now px) ≡ length (now keys)) × (length (now py) ≡ length (now keys)) ⌝ }
+    ensures { λ r. ⌜ Read (now (keys .entry)) (length (now (keys .entry))) (now (px .exit)) (now (py .exit)) ⌝ }
+{
+    let mut i: usize = 0;
+    while i < keys.len() {
+        let p = point_of(keys[i]);
+        put_point(px, py, i, p);
+        i = i + 1;
+    }
+}
+
+// ---- sorting keys
+
+// The key after j is less than v.
+fn passes(keys: &[u64], j: usize, v: u64) -> bool
+    requires { ⌜ j < length (now keys) ⌝ }
+    ensures { λ r. ⌜ r ≡ passesKey (now (keys .entry)) j v ⌝ }
 {
     let k = j + 1;
-    if k < px.len() {
-        let q = point_at(px, py, k);
-        if ordered(s, p, q) {
-            return false;
-        }
-        return true;
+    if k < keys.len() {
+        return keys[k] < v;
     }
     false
 }
 
-// The point at `from` goes to its place among those after it, which are sorted.
-fn settle(px: &mut [i32], py: &mut [i32], from: usize, s: Point)
-    requires { ⌜ Even (now px) (now py) ⌝ }
-    requires { ⌜ from < length (now px) ⌝ }
-    ensures { λ r. ⌜ Settled (now (px .entry)) (now (py .entry)) from s (now (px .exit)) (now (py .exit)) ⌝ }
+// The key at `from` goes to its place among those after it, which are sorted.
+fn settle(keys: &mut [u64], from: usize)
+    requires { ⌜ from < length (now keys) ⌝ }
+    ensures { λ r. ⌜ now (keys .exit) ≡ take from (now (keys .entry)) ++ placeKey (getD (now (keys .entry)) from 0) (drop (from + 1) (now (keys .entry))) ⌝ }
 {
-    let p = point_at(px, py, from);
+    let v = keys[from];
     let mut j = from;
-    let mut go = passes(px, py, j, p, s);
+    let mut go = passes(keys, j, v);
     while go {
         let k = j + 1;
-        let q = point_at(px, py, k);
-        put_point(px, py, j, q);
+        keys[j] = keys[k];
         j = k;
-        go = passes(px, py, j, p, s);
+        go = passes(keys, j, v);
     }
-    put_point(px, py, j, p);
+    keys[j] = v;
+}
+
+fn sort_keys(keys: &mut [u64])
+    ensures { λ r. ⌜ now (keys .exit) ≡ sortKeys (now (keys .entry)) ⌝ }
+{
+    let mut i = keys.len();
+    while 0 < i {
+        i = i - 1;
+        settle(keys, i);
+    }
+}
+
+// By keys, one for each point.
+fn sort_by(px: &mut [i32], py: &mut [i32], s: Point, keys: &mut [u64])
+    requires { ⌜ Even (now px) (now py) × Within reach s ⌝ }
+    requires { ⌜ length (now keys) ≡ length (now px) ⌝ }
+    ensures { λ r. ⌜ Sorted (now (px .entry)) (now (py .entry)) s (now (px .exit)) (now (py .exit)) ⌝ }
+{
+    put_keys(px, py, s, keys);
+    sort_keys(keys);
+    read_keys(keys, px, py);
+}
+
+fn key_buffer() -> [u64; tree::MOST_TERMINALS]
+    ensures { λ r. ⌜ mostTerminals ≡ length r ⌝ }
+{
+    [0; tree::MOST_TERMINALS]
 }
 
 pub fn sort(px: &mut [i32], py: &mut [i32], s: Point)
     requires { ⌜ Even (now px) (now py) ⌝ }
+    requires { ⌜ Within reach s × (length (now px) ≤ mostTerminals) ⌝ }
     ensures { λ r. ⌜ Sorted (now (px .entry)) (now (py .entry)) s (now (px .exit)) (now (py .exit)) ⌝ }
 {
-    let mut i = px.len();
-    while 0 < i {
-        i = i - 1;
-        settle(px, py, i, s);
-    }
+    let n = px.len();
+    let mut keys = key_buffer();
+    sort_by(px, py, s, &mut keys[..n]);
 }

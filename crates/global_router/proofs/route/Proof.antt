@@ -1,7 +1,7 @@
 -- `global_router::route`: the reading's answer decides, and demand 3 comes with it.
 use denote.Ref.{now}
 use Rattle.job.proofs.Accepted.{turned-away, taken}
-use Rattle.global_router.proofs.Answering.{route-refused, route-given, gives, with-owed}
+use Rattle.global_router.proofs.Answering.{route-refused, route-given, with-owed}
 use borrow.Author.Needs.{needs}
 use Rattle.global_router.proofs.route.Statement.{statement}
 use Rattle.global_router.proofs.route.Tie as tie
@@ -18,8 +18,8 @@ refused-requires c κs = search needs
 enum-told : tie.Need-enum-told
 enum-told c = search needs
 
-routed-requires : tie.Need-routed-requires
-routed-requires c κs =
+accepted-requires : tie.Need-accepted-requires
+accepted-requires c κs =
     let t = taken _ (c .before .before .before .read-job .ensures) (c .before .enum-told .given .1) in
     record { packing = t .job; accepted = t .sound }
 
@@ -31,8 +31,7 @@ returns c =
 returns-2 : tie.Need-returns-2
 returns-2 c =
     let b = now (c .before .before .before .before .before .before .args .bytes) in
-    let t = taken b (c .before .before .before .before .read-job .ensures) (c .before .before .enum-told .given .1) in
-    with-owed b (route-given b (t .read) (gives _ _ (c .routed .ensures .0) (c .routed .ensures .1)))
+    with-owed b (route-given b (taken b (c .before .before .before .before .read-job .ensures) (c .before .before .enum-told .given .1) .read) (c .accepted .ensures))
 
 pub route-spec : {M : Type 1} → statement M
 route-spec =
@@ -42,6 +41,6 @@ route-spec =
     enum-known-answer
     refused-requires
     enum-told
-    routed-requires
+    accepted-requires
     returns
     returns-2)

@@ -1,4 +1,4 @@
--- `inserting::route_sorted`: at the head of the loop the columns hold the tree of the terminals so far.
+-- `inserting::route_sorted`: at the head of the loop the columns hold the tree of the terminals so far, and the boxes cover it.
 use Prim.Native.Nat.{_-_}
 use mathlib.Core.Path.{refl, sym, _∙_}
 use native.Mathlib.Omega.{arith}
@@ -10,11 +10,12 @@ use Rattle.inserting.proofs.route_sorted.Statement.{statement}
 use Rattle.inserting.proofs.route_sorted.Tie as tie
 
 abbrev Inv-loop : tie.InvT-loop
-Inv-loop xs₀ ys₀ path₀ parent₀ kind₀ number₀ last₀ prev₀ next₀ px py ks way a k₀ i₀ xs ys path parent kind number last prev next k i =
-    Under (length prev₀) way ks px py a i k (store (rowsOf xs ys path parent kind number) (links last prev next))
+Inv-loop xs₀ ys₀ path₀ parent₀ kind₀ number₀ last₀ prev₀ next₀ lows₀ highs₀ px py ks way a k₀ i₀ xs ys path parent kind number last prev next lows highs k i =
+    Under (length prev₀) lows₀ highs₀ way ks px py a i k (store (rowsOf xs ys path parent kind number) (links last prev next)) lows highs
 
 abbrev μ-loop : tie.MeasureT-loop
-μ-loop xs₀ ys₀ path₀ parent₀ kind₀ number₀ last₀ prev₀ next₀ px py ks way a k₀ i₀ xs ys path parent kind number last prev next k i = length px - i
+μ-loop xs₀ ys₀ path₀ parent₀ kind₀ number₀ last₀ prev₀ next₀ lows₀ highs₀ px py ks way a k₀ i₀ xs ys path parent kind number last prev next lows highs k i =
+    length px - i
 
 -- the columns at entry, and at the loop's head
 abbrev cols : tie.Start Inv-loop μ-loop → Store
@@ -24,32 +25,46 @@ abbrev here : tie.At-loop Inv-loop μ-loop → Store
 here d = store (rowsOf (d .loop .xs) (d .loop .ys) (d .loop .path) (d .loop .parent) (d .loop .kind) (d .loop .number)) (links (d .loop .last) (d .loop .prev) (d .loop .next))
 
 -- the places on the way to the end of a turn
-abbrev entry : tie.At-loop Inv-loop μ-loop → tie.Start Inv-loop μ-loop
-entry c = c .before .before .before .before .before .before .before .before .before .before .before .before .before .before .before .before .before .before .before .before .before .before .before .before .before .before .before .before .before
+abbrev covered : tie.At-loop Inv-loop μ-loop → tie.After-cover-source Inv-loop μ-loop
+covered c = c .before .before .before
 
-abbrev asked : tie.After-slice-known19 Inv-loop μ-loop → tie.After-query-at Inv-loop μ-loop
-asked c = c .before .before .before .before .before .before .before .before .before .before .before .before .before .before .before .before .before .before .before .before .before .before .before .before .before .before
+abbrev entry : tie.At-loop Inv-loop μ-loop → tie.Start Inv-loop μ-loop
+entry c = covered c .before .before .before .before .before .before .before .before .before .before .before .before .before .before .before .before .before .before .before .before .before .before .before .before .before .before .before .before .before .before .before
+
+abbrev asked : tie.After-highs2 Inv-loop μ-loop → tie.After-query-at Inv-loop μ-loop
+asked c = c .before .before .before .before .before .before .before .before .before .before .before .before .before .before .before .before .before .before .before .before .before .before .before .before .before .before .before .before .before .before
 
 store-source-requires : tie.Need-store-source-requires Inv-loop μ-loop
-store-source-requires c κs = let v = c .before .before .before .before .before .before .before .before .before .before .before .before .before .before .before .pre in (v .sized .rows, (omega (arith, v .room), omega (arith, v .room, v .sized .links .last)))
+store-source-requires c κs = let v = c .before .before .before .before .before .before .before .before .before .before .before .before .before .before .before .pre .0 in (v .sized .rows, (omega (arith, v .room), omega (arith, v .room, v .sized .links .last)))
+
+cover-source-requires : tie.Need-cover-source-requires Inv-loop μ-loop
+cover-source-requires c κs = let v = c .before .before .before .before .before .before .before .before .before .before .before .before .before .before .before .before .before .before .before .before .before .before .before .before .before .before .before .before .before .before .pre in record { in-lows = omega (arith, v .0 .room, v .1 .in-lows); in-highs = omega (arith, v .0 .room, v .1 .in-highs) }
 
 loop-holds : tie.Need-loop-holds Inv-loop μ-loop
 loop-holds c =
-    let s = c .before .before .before .before .before .before .before .before .before .before .before .before .before .before .before .before .before .before .before .before .before .before .before .before .before .before .before .before in
-    let e = c .before .before .before .before .before .before .before .before .before .before .before .before .store-source .ensures in
-    starts (s .args .way) _ _ _ _ (cols s) (s .pre) _ (record { rows = e .0; last = e .1; prev = refl; next = refl })
+    let s = c .before .before .before .before .before .before .before .before .before .before .before .before .before .before .before .before .before .before .before .before .before .before .before .before .before .before .before .before .before .before .before .before .before in
+    let e = c .before .before .before .before .before .before .before .before .before .before .before .before .before .before .before .before .before .store-source .ensures in
+    starts (s .args .way) _ _ _ _ (cols s) (s .pre .0) _ (record { rows = e .0; last = e .1; prev = refl; next = refl }) _ _ (c .before .before .cover-source .ensures)
 
 query-at-requires : tie.Need-query-at-requires Inv-loop μ-loop
-query-at-requires c κs = (c .loop-test .taken, omega (arith, c .loop-test .taken, c .before .before .before .before .before .before .before .before .before .before .before .before .before .before .before .before .before .before .before .before .before .before .before .before .before .before .before .before .before .before .pre .both))
+query-at-requires c κs = (c .loop-test .taken, omega (arith, c .loop-test .taken, entry (c .before) .pre .0 .both))
 
 insert-terminal-requires : tie.Need-insert-terminal-requires Inv-loop μ-loop
 insert-terminal-requires c κs =
-    let s = c .before .before .before .before .before .before .before .before .before .before .before .before .before .before .before .before .before .before .before .before .before .before .before .before .before .before .before .before .before .before .before .before .before .before .before .before .before .before .before .before in
-    let d = c .before .before .before .before .before .before .before .before .before .before .before in
-    stands (s .args .way) _ _ _ _ (cols s) (s .pre) _ _ (here d) (d .loop .inv) (c .before .before .before .before .before .before .before .before .before .before .loop-test .taken) _ (c .before .before .before .before .before .before .before .before .before .query-at .ensures)
+    let d = c .before .before .before .before .before .before .before .before .before .before .before .before .before in
+    let s = entry d in
+    let u = d .loop .inv in
+    let k = covered d .cover-source .kept in
+    let z = s .pre .0 .sized in (
+      stands (s .args .way) _ _ _ _ (cols s) (s .pre .0) _ _ _ _ (here d) _ _ u (c .before .before .before .before .before .before .before .before .before .before .before .before .loop-test .taken) _ (c .before .before .before .before .before .before .before .before .before .before .before .query-at .ensures),
+      record {
+        in-lows = omega (arith, s .pre .1 .in-lows, k .0, u .as-lows, u .sized .rows .xs, z .links .prev);
+        in-highs = omega (arith, s .pre .1 .in-highs, k .1 .0, u .as-highs, u .sized .rows .xs, z .links .prev);
+      },
+    )
 
 add-i : tie.Need-add-i Inv-loop μ-loop
-add-i c = omega (arith, asked c .before .loop-test .taken, c .before .before .before .before .before .before .before .before .before .before .before .before .before .before .before .before .before .before .before .before .before .before .before .before .before .before .before .before .before .before .before .before .before .before .before .before .before .before .before .before .before .before .before .before .before .before .before .before .before .before .before .before .before .before .before .before .before .pre .few)
+add-i c = omega (arith, asked c .before .loop-test .taken, entry (asked c .before .before) .pre .0 .few)
 
 loop-less : tie.Need-loop-less Inv-loop μ-loop
 loop-less c = omega (arith, asked c .before .loop-test .taken)
@@ -59,40 +74,48 @@ loop-again c =
     let a = asked c in
     let d = a .before .before in
     let s = entry d in
-    turn (s .args .way) _ _ _ _ (cols s) (s .pre) _ _ (here d) (d .loop .inv) (a .before .loop-test .taken) _ (a .query-at .ensures) _ _ (c .before .before .before .before .before .before .before .before .before .before .before .before .before .before .before .before .insert-terminal .ensures)
+    let o = c .before .before .before .before .before .before .before .before .before .before .before .before .before .before .before .before .before .before .insert-terminal in
+    let k = o .kept .1 .1 .1 .1 .1 .1 .1 .1 .1 in
+    turn (s .args .way) _ _ _ _ (cols s) (s .pre .0) _ _ _ _ (here d) _ _ (d .loop .inv) (a .before .loop-test .taken) _ (a .query-at .ensures) _ _ _ _ (k .0) (k .1 .0) (o .ensures)
 
 same-length : tie.Need-same-length Inv-loop μ-loop
-same-length c = let z = entry (c .before) .pre .sized in c .before .loop .inv .sized .rows .xs ∙ z .links .prev ∙ sym (z .rows .xs)
+same-length c = let z = entry (c .before) .pre .0 .sized in c .before .loop .inv .sized .rows .xs ∙ z .links .prev ∙ sym (z .rows .xs)
 
 same-length-2 : tie.Need-same-length-2 Inv-loop μ-loop
-same-length-2 c = let z = entry (c .before) .pre .sized in c .before .loop .inv .sized .rows .ys ∙ z .links .prev ∙ sym (z .rows .ys)
+same-length-2 c = let z = entry (c .before) .pre .0 .sized in c .before .loop .inv .sized .rows .ys ∙ z .links .prev ∙ sym (z .rows .ys)
 
 same-length-3 : tie.Need-same-length-3 Inv-loop μ-loop
-same-length-3 c = let z = entry (c .before) .pre .sized in c .before .loop .inv .sized .rows .path ∙ z .links .prev ∙ sym (z .rows .path)
+same-length-3 c = let z = entry (c .before) .pre .0 .sized in c .before .loop .inv .sized .rows .path ∙ z .links .prev ∙ sym (z .rows .path)
 
 same-length-4 : tie.Need-same-length-4 Inv-loop μ-loop
-same-length-4 c = let z = entry (c .before) .pre .sized in c .before .loop .inv .sized .rows .parent ∙ z .links .prev ∙ sym (z .rows .parent)
+same-length-4 c = let z = entry (c .before) .pre .0 .sized in c .before .loop .inv .sized .rows .parent ∙ z .links .prev ∙ sym (z .rows .parent)
 
 same-length-5 : tie.Need-same-length-5 Inv-loop μ-loop
-same-length-5 c = let z = entry (c .before) .pre .sized in c .before .loop .inv .sized .rows .kind ∙ z .links .prev ∙ sym (z .rows .kind)
+same-length-5 c = let z = entry (c .before) .pre .0 .sized in c .before .loop .inv .sized .rows .kind ∙ z .links .prev ∙ sym (z .rows .kind)
 
 same-length-6 : tie.Need-same-length-6 Inv-loop μ-loop
-same-length-6 c = let z = entry (c .before) .pre .sized in c .before .loop .inv .sized .rows .number ∙ z .links .prev ∙ sym (z .rows .number)
+same-length-6 c = let z = entry (c .before) .pre .0 .sized in c .before .loop .inv .sized .rows .number ∙ z .links .prev ∙ sym (z .rows .number)
 
 same-length-7 : tie.Need-same-length-7 Inv-loop μ-loop
-same-length-7 c = let z = entry (c .before) .pre .sized in c .before .loop .inv .sized .links .last ∙ z .links .prev ∙ sym (z .links .last)
+same-length-7 c = let z = entry (c .before) .pre .0 .sized in c .before .loop .inv .sized .links .last ∙ z .links .prev ∙ sym (z .links .last)
 
 same-length-8 : tie.Need-same-length-8 Inv-loop μ-loop
 same-length-8 c = c .before .loop .inv .sized .links .prev
 
 same-length-9 : tie.Need-same-length-9 Inv-loop μ-loop
-same-length-9 c = let z = entry (c .before) .pre .sized in c .before .loop .inv .sized .links .next ∙ z .links .prev ∙ sym (z .links .next)
+same-length-9 c = let z = entry (c .before) .pre .0 .sized in c .before .loop .inv .sized .links .next ∙ z .links .prev ∙ sym (z .links .next)
+
+same-length-10 : tie.Need-same-length-10 Inv-loop μ-loop
+same-length-10 c = c .before .loop .inv .as-lows ∙ covered (c .before) .cover-source .kept .0
+
+same-length-11 : tie.Need-same-length-11 Inv-loop μ-loop
+same-length-11 c = c .before .loop .inv .as-highs ∙ covered (c .before) .cover-source .kept .1 .0
 
 returns : tie.Need-returns Inv-loop μ-loop
 returns c =
     let d = c .before in
     let s = entry d in
-    ends (s .args .way) _ _ _ _ (cols s) (s .pre) _ _ (here d) (d .loop .inv) (omega (arith, c .loop-test .left, d .loop .inv .low))
+    ends (s .args .way) _ _ _ _ (cols s) (s .pre .0) _ _ _ _ (here d) _ _ (d .loop .inv) (omega (arith, c .loop-test .left, d .loop .inv .low))
 
 pub route-sorted-spec : {M : Type 1} → statement M
 route-sorted-spec =
@@ -101,6 +124,7 @@ route-sorted-spec =
     Inv-loop
     μ-loop
     store-source-requires
+    cover-source-requires
     loop-holds
     query-at-requires
     insert-terminal-requires
@@ -116,4 +140,6 @@ route-sorted-spec =
     same-length-7
     same-length-8
     same-length-9
+    same-length-10
+    same-length-11
     returns)

@@ -1,6 +1,6 @@
 -- `planning::plan`: the outcome of routing decides.
 use denote.Ref.{now}
-use Rattle.global_router.proofs.Reading.{answers-of}
+use Rattle.output.proofs.Answering.{answers-of}
 use Rattle.planning.proofs.Parts.{of-refusal, of-tree}
 use borrow.Author.Needs.{needs}
 use Rattle.planning.proofs.plan.Statement.{statement}

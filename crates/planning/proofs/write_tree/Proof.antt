@@ -1,6 +1,6 @@
 -- `planning::write_tree`: where the text has at most 65,536 bytes, the text and the figures; else 11.
 use Rattle.global_router.specs.Stored.{treeOf}
-use Rattle.global_router.proofs.Reading.{answers-of}
+use Rattle.output.proofs.Answering.{answers-of}
 use Rattle.planning.specs.Output.{figuresLine, treeOutput}
 use Rattle.planning.proofs.Parts.{Front, with-figures, too-long}
 use mathlib.Core.Path.{sym}

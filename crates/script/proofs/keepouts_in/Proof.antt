@@ -2,38 +2,32 @@
 use borrow.Author.Needs.{needs}
 use Prim.Native.Nat.{_-_, _≤_}
 use native.Mathlib.Omega.{arith}
-use mathlib.Core.Path.{_≡_}
+use mathlib.Core.Path.{_≡_, refl}
 use lib.ListN.{length, length-set}
-use Rattle.script.specs.Runs.{mostNumbers}
+use Rattle.rectangles.specs.Rectangles.{room}
 use Rattle.script.proofs.keepouts_in.Statement.{statement}
 use Rattle.script.proofs.keepouts_in.Tie as tie
 
 abbrev Inv-loop : tie.InvT-loop
-Inv-loop «record» numbers₀ i₀ numbers i = (i ≤ mostNumbers) × (mostNumbers ≡ length numbers)
+Inv-loop «record» list₀ i₀ list i = (i ≤ room) × (length list ≡ room)
 
 abbrev μ-loop : tie.MeasureT-loop
-μ-loop «record» numbers₀ i₀ numbers i = mostNumbers - i
+μ-loop «record» list₀ i₀ list i = room - i
 
-number-buffer-requires : tie.Need-number-buffer-requires Inv-loop μ-loop
-number-buffer-requires c κs = search needs
+keepout-at-requires : tie.Need-keepout-at-requires Inv-loop μ-loop
+keepout-at-requires c κs = search needs
 
 loop-holds : tie.Need-loop-holds Inv-loop μ-loop
-loop-holds c = (omega arith, c .number-buffer .ensures)
+loop-holds c = (omega arith, refl)
 
-mul-i32-at : tie.Need-mul-i32-at Inv-loop μ-loop
-mul-i32-at c = search needs
+keepout-at-requires-2 : tie.Need-keepout-at-requires-2 Inv-loop μ-loop
+keepout-at-requires-2 c κs = search needs
 
-add-i32-at : tie.Need-add-i32-at Inv-loop μ-loop
-add-i32-at c = search needs
+mul-list : tie.Need-mul-list Inv-loop μ-loop
+mul-list c = search needs
 
-i32-at-requires : tie.Need-i32-at-requires Inv-loop μ-loop
-i32-at-requires c κs = search needs
-
-mul-numbers : tie.Need-mul-numbers Inv-loop μ-loop
-mul-numbers c = search needs
-
-array-set-from-numbers : tie.Need-array-set-from-numbers Inv-loop μ-loop
-array-set-from-numbers c = omega arith
+array-set-from-list : tie.Need-array-set-from-list Inv-loop μ-loop
+array-set-from-list c = omega arith
 
 add-i : tie.Need-add-i Inv-loop μ-loop
 add-i c = search needs
@@ -44,8 +38,11 @@ loop-less c = search needs
 loop-again : tie.Need-loop-again Inv-loop μ-loop
 loop-again c = (omega arith, simp length-set (c .before .before .loop .inv .1))
 
+keepout-count-requires : tie.Need-keepout-count-requires Inv-loop μ-loop
+keepout-count-requires c κs = search needs
+
 returns : tie.Need-returns Inv-loop μ-loop
-returns c = c .before .loop .inv .1
+returns c = search needs
 
 pub keepouts-in-spec : {M : Type 1} → statement M
 keepouts-in-spec =
@@ -53,14 +50,13 @@ keepouts-in-spec =
     (tie.spec
     Inv-loop
     μ-loop
-    number-buffer-requires
+    keepout-at-requires
     loop-holds
-    mul-i32-at
-    add-i32-at
-    i32-at-requires
-    mul-numbers
-    array-set-from-numbers
+    keepout-at-requires-2
+    mul-list
+    array-set-from-list
     add-i
     loop-less
     loop-again
+    keepout-count-requires
     returns)

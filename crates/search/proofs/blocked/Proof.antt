@@ -3,17 +3,16 @@ use Prim.Native.Nat.{_≤_, _-_}
 use mathlib.Core.Path.{refl}
 use native.Mathlib.Omega.{arith}
 use lib.ListN.{length}
-use Rattle.geometry.specs.declared.Rectangle.{Rectangle}
-use Rattle.search.specs.Branch.{stopsBy}
+use Rattle.search.specs.Branch.{stopsBranch}
 use Rattle.search.proofs.Keepouts.{Scan, scan-hit, scan-next, scan-ends}
 use Rattle.search.proofs.blocked.Statement.{statement}
 use Rattle.search.proofs.blocked.Tie as tie
 
 abbrev Inv-loop : tie.InvT-loop
-Inv-loop ks n a b c i₀ i = (i ≤ length ks) × Scan (λ (k : Rectangle). stopsBy k n a b c) ks i
+Inv-loop ks n q P C i₀ i = (i ≤ length ks) × Scan (stopsBranch n q P C) ks i
 
 abbrev μ-loop : tie.MeasureT-loop
-μ-loop ks n a b c i₀ i = length ks - i
+μ-loop ks n q P C i₀ i = length ks - i
 
 loop-holds : tie.Need-loop-holds Inv-loop μ-loop
 loop-holds c = (omega arith, refl)
@@ -24,11 +23,11 @@ add-loop c = omega arith
 keepout-at-requires : tie.Need-keepout-at-requires Inv-loop μ-loop
 keepout-at-requires c κs = omega arith
 
-stops-requires : tie.Need-stops-requires Inv-loop μ-loop
-stops-requires c κs = tt
+stops-branch-requires : tie.Need-stops-branch-requires Inv-loop μ-loop
+stops-branch-requires c κs = tt
 
 returns : tie.Need-returns Inv-loop μ-loop
-returns c = scan-hit _ _ _ (c .before .before .before .before .loop .inv .1) (c .before .before .before .loop-test .taken) _ _ (c .before .before .keepout-at .ensures) (c .before .stops .ensures) (c .if1 .taken)
+returns c = scan-hit _ _ _ (c .before .before .before .before .loop .inv .1) (c .before .before .before .loop-test .taken) _ _ (c .before .before .keepout-at .ensures) (c .before .stops-branch .ensures) (c .if1 .taken)
 
 add-i : tie.Need-add-i Inv-loop μ-loop
 add-i c = omega arith
@@ -37,7 +36,7 @@ loop-less : tie.Need-loop-less Inv-loop μ-loop
 loop-less c = omega arith
 
 loop-again : tie.Need-loop-again Inv-loop μ-loop
-loop-again c = (omega arith, scan-next _ _ _ (c .before .before .before .before .loop .inv .1) (c .before .before .before .loop-test .taken) _ _ (c .before .before .keepout-at .ensures) (c .before .stops .ensures) (c .if1 .left))
+loop-again c = (omega arith, scan-next _ _ _ (c .before .before .before .before .loop .inv .1) (c .before .before .before .loop-test .taken) _ _ (c .before .before .keepout-at .ensures) (c .before .stops-branch .ensures) (c .if1 .left))
 
 returns-2 : tie.Need-returns-2 Inv-loop μ-loop
 returns-2 c = scan-ends _ _ _ (c .before .loop .inv .1) (c .loop-test .left)
@@ -51,7 +50,7 @@ blocked-spec =
     loop-holds
     add-loop
     keepout-at-requires
-    stops-requires
+    stops-branch-requires
     returns
     add-i
     loop-less

@@ -1,53 +1,32 @@
--- `search::examine`: the nearest point and the three boxes are the definition's, so the block and what is found are.
+-- `search::examine`: each part of the branch is the definition's.
 use mathlib.Core.Path.{sym, subst}
-use Rattle.geometry.specs.declared.Point.{Point}
-use Rattle.geometry.specs.Laws.{Within, nearest-within}
-use Rattle.tree.specs.Limits.{reach}
-use Rattle.search.proofs.Judging.{exam-blocked, exam-open}
+use Rattle.search.specs.Branch.{keepoutsOf, Near}
+use Rattle.search.specs.Walk.{viewAt}
+use Rattle.search.specs.Thin.{isWanted}
+use Rattle.search.proofs.Judging.{thin-is}
 use borrow.Author.Needs.{needs}
 use Rattle.search.proofs.examine.Statement.{statement}
 use Rattle.search.proofs.examine.Tie as tie
 
-nearest-on-requires : tie.Need-nearest-on-requires
-nearest-on-requires c κs = search needs
+view-at-requires : tie.Need-view-at-requires
+view-at-requires c κs = search needs
 
-hull-with-requires : tie.Need-hull-with-requires
-hull-with-requires c κs = search needs
+judge-requires : tie.Need-judge-requires
+judge-requires c κs = subst (Near _ _) (sym (c .view-at .ensures)) (c .before .before .before .pre .near)
 
-hull-with-requires-2 : tie.Need-hull-with-requires-2
-hull-with-requires-2 c κs = search needs
+is-wanted-requires : tie.Need-is-wanted-requires
+is-wanted-requires c κs = search needs
 
-hull-with-requires-3 : tie.Need-hull-with-requires-3
-hull-with-requires-3 c κs = search needs
-
-blocked-requires : tie.Need-blocked-requires
-blocked-requires c κs = search needs
+settle-requires : tie.Need-settle-requires
+settle-requires c κs = search needs
 
 returns : tie.Need-returns
 returns c =
-    exam-blocked _ _ _ _ _ _ _ _ _ _ (c .before .before .before .before .before .nearest-on .ensures) (c .before .before .before .before .hull-with .ensures)
-    (c .before .before .before .hull-with2 .ensures) (c .before .before .hull-with3 .ensures) (c .before .blocked .ensures) (c .if1 .taken)
-
-judge-requires : tie.Need-judge-requires
-judge-requires c κs =
-    let s = c .before .before .before .before .before .before .before .before .before in
-    (s .pre, subst (λ (n : Point). Within reach n) (sym (c .before .before .before .before .before .nearest-on .ensures)) (nearest-within _ (s .pre .p) (s .pre .c)))
-
-returns-2 : tie.Need-returns-2
-returns-2 c =
-    exam-open _ _ _ _ _ _ _ _ _ _ (c .before .before .before .before .before .before .nearest-on .ensures) (c .before .before .before .before .before .hull-with .ensures)
-    (c .before .before .before .before .hull-with2 .ensures) (c .before .before .before .hull-with3 .ensures) (c .before .before .blocked .ensures) (c .before .if1 .left)
-    _ (c .judge .ensures)
+    let s = c .before .before .before .before .before .before .before in
+    thin-is (keepoutsOf (s .args .ks .now)) (s .args .query) (viewAt (s .args .xs .now) (s .args .ys .now) (s .args .path .now))
+    (isWanted (s .args .query) (s .args .last .now) (s .args .lows .now) (s .args .highs .now)) _ (s .args .c) _ _ _ _ _
+    (c .before .before .before .before .view-at .ensures) (c .before .before .before .judge .ensures) (c .before .is-wanted .ensures) (c .settle .ensures)
 
 pub examine-spec : {M : Type 1} → statement M
 examine-spec =
-    tie.close
-    (tie.spec
-    nearest-on-requires
-    hull-with-requires
-    hull-with-requires-2
-    hull-with-requires-3
-    blocked-requires
-    returns
-    judge-requires
-    returns-2)
+    tie.close (tie.spec view-at-requires judge-requires is-wanted-requires settle-requires returns)

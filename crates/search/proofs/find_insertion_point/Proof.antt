@@ -1,6 +1,6 @@
 -- `search::find_insertion_point`: a stack as high as the most nodes is enough for any tree that stands in the columns.
 use native.Mathlib.Omega.{arith}
-use Rattle.search.proofs.TreeWalk.{ready-sound, ready-safe, joins}
+use Rattle.search.proofs.TreeWalk.{ready-sound, ready-boxes, ready-safe, joins}
 use borrow.Author.Needs.{needs}
 use Rattle.search.proofs.find_insertion_point.Statement.{statement}
 use Rattle.search.proofs.find_insertion_point.Tie as tie
@@ -9,7 +9,7 @@ slice-aggregate-walk : tie.Need-slice-aggregate-walk
 slice-aggregate-walk c = search needs
 
 walk-requires : tie.Need-walk-requires
-walk-requires c κs = let v = c .before .before .before .before .pre in (ready-sound v, (omega arith, ready-safe v _))
+walk-requires c κs = let v = c .before .before .before .before .pre in (ready-sound v, (ready-boxes v, (omega arith, ready-safe v _)))
 
 returns : tie.Need-returns
 returns c = joins _ _ _ _ _ _ _ _ _ (c .before .walk .ensures)

@@ -1,56 +1,46 @@
--- `search::judge`: the numbers of the branch are the definition's, so the take and what is kept are.
-use native.Mathlib.Omega.{arith}
-use Rattle.geometry.specs.Laws.{dist-small}
-use Rattle.search.proofs.Judging.{judge-yes, judge-no}
+-- `search::judge`: a branch that is past what was found is not taken; the nearest point is the definition's.
+use mathlib.Core.Path.{ap, sym, subst, _∙_}
+use Rattle.geometry.specs.declared.Point.{Point}
+use Rattle.geometry.specs.Laws.{Within, nearest-within}
+use Rattle.tree.specs.Limits.{reach}
+use Rattle.search.specs.Thin.{judgedAt}
+use Rattle.search.proofs.Judging.{judged-past}
 use borrow.Author.Needs.{needs}
 use Rattle.search.proofs.judge.Statement.{statement}
 use Rattle.search.proofs.judge.Tie as tie
 
+-- the nearest point is within the limit
+n-in : (c : tie.After-nearest-on) → Within reach (c .nearest-on .result)
+n-in c = let s = c .before in subst (λ (n : Point). Within reach n) (sym (c .nearest-on .ensures)) (nearest-within _ (s .pre .p) (s .pre .c))
+
+nearest-on-requires : tie.Need-nearest-on-requires
+nearest-on-requires c κs = search needs
+
 distance-requires : tie.Need-distance-requires
-distance-requires c κs = (c .before .before .pre .1, c .before .before .pre .0 .within)
+distance-requires c κs = (n-in c, c .before .pre .within)
 
-distance-requires-2 : tie.Need-distance-requires-2
-distance-requires-2 c κs = (c .before .before .before .pre .0 .p, c .before .before .before .pre .1)
+cast-is-past : tie.Need-cast-is-past
+cast-is-past c = search needs
 
-add-l : tie.Need-add-l
-add-l c = let s = c .before .before .before .before .before in omega (arith, s .pre .0 .path, c .before .distance2 .ensures, dist-small (s .pre .0 .p) (s .pre .1))
+is-past-requires : tie.Need-is-past-requires
+is-past-requires c κs = search needs
 
-add-l-2 : tie.Need-add-l-2
-add-l-2 c = let s = c .before .before .before .before .before in omega (arith, s .pre .0 .path, c .before .distance2 .ensures, c .before .before .distance .ensures, dist-small (s .pre .0 .p) (s .pre .1), dist-small (s .pre .1) (s .pre .0 .within))
-
-is-allowed-requires : tie.Need-is-allowed-requires
-is-allowed-requires c κs = search needs
-
-takes-requires : tie.Need-takes-requires
-takes-requires c κs = search needs
-
-join-at-requires : tie.Need-join-at-requires
-join-at-requires c κs = search needs
-
-either-requires : tie.Need-either-requires
-either-requires c κs = search needs
+untaken-requires : tie.Need-untaken-requires
+untaken-requires c κs = search needs
 
 returns : tie.Need-returns
 returns c =
-    judge-yes _ _ _ _ _ _ _ _ _ (c .before .before .before .before .before .before .before .distance .ensures) (c .before .before .before .before .before .before .distance2 .ensures) (c .before .before .before .before .is-allowed .ensures)
-    (c .before .before .before .takes .ensures) _ _ (c .before .before .if1 .taken) (c .before .join-at .ensures) (c .either .ensures)
+    let s = c .before .before .before .before .before in
+    c .untaken .ensures ∙ judged-past _ _ _ _ _ _ (c .before .before .before .distance .ensures) (sym (c .before .before .is-past .ensures) ∙ c .before .if1 .taken)
+    ∙ ap (judgedAt (s .args .query) (s .args .at) (s .args .to) (s .args .b)) (c .before .before .before .before .nearest-on .ensures)
+
+judge-at-requires : tie.Need-judge-at-requires
+judge-at-requires c κs = (c .before .before .before .before .pre, (n-in (c .before .before .before), c .before .before .distance .ensures))
 
 returns-2 : tie.Need-returns-2
 returns-2 c =
-    judge-no _ _ _ _ _ _ _ _ _ (c .before .before .before .before .before .distance .ensures) (c .before .before .before .before .distance2 .ensures) (c .before .before .is-allowed .ensures)
-    (c .before .takes .ensures) (c .if1 .left)
+    let s = c .before .before .before .before .before in
+    c .judge-at .ensures ∙ ap (judgedAt (s .args .query) (s .args .at) (s .args .to) (s .args .b)) (c .before .before .before .before .nearest-on .ensures)
 
 pub judge-spec : {M : Type 1} → statement M
-judge-spec =
-    tie.close
-    (tie.spec
-    distance-requires
-    distance-requires-2
-    add-l
-    add-l-2
-    is-allowed-requires
-    takes-requires
-    join-at-requires
-    either-requires
-    returns
-    returns-2)
+judge-spec = tie.close (tie.spec nearest-on-requires distance-requires cast-is-past is-past-requires untaken-requires returns judge-at-requires returns-2)

@@ -1,66 +1,65 @@
+-- `sorting::settle`: keys that are less move one place on, until the key is in its place.
 use Prim.Native.Nat.{_-_}
-use mathlib.Core.Path.{refl, sym, subst, _∙_}
 use native.Mathlib.Omega.{arith}
-use lib.ListN.{length}
-use Rattle.tree.specs.Limits.{reach}
-use Rattle.geometry.specs.Laws.{Within}
-use Rattle.sorting.specs.Points.{Moving}
-use Rattle.sorting.proofs.Moves.{moving-starts, moving-in, moving-more, moving-ready, moving-turn, moving-ends}
+use lib.ListN.{length, length-set}
+use borrow.Author.Needs.{needs}
+use Rattle.sorting.proofs.Placing.{Moving, moving-starts, moving-in, moving-more, moving-turn, moving-ends}
 use Rattle.sorting.proofs.settle.Statement.{statement}
 use Rattle.sorting.proofs.settle.Tie as tie
 
 abbrev Inv-loop : tie.InvT-loop
-Inv-loop px₀ py₀ from s p j₀ go₀ px py j go = Moving px₀ py₀ from s p px py j go
+Inv-loop keys₀ from v j₀ go₀ keys j go = Moving keys₀ from v keys j go
 
 abbrev μ-loop : tie.MeasureT-loop
-μ-loop px₀ py₀ from s p j₀ go₀ px py j go = length px₀ - j
+μ-loop keys₀ from v j₀ go₀ keys j go = length keys₀ - j
 
-point-at-requires : tie.Need-point-at-requires Inv-loop μ-loop
-point-at-requires c κs = let s = c .before .before in (s .pre .1, omega (arith, s .pre .1, s .pre .0 .both))
+mul-v : tie.Need-mul-v Inv-loop μ-loop
+mul-v c = search needs
+
+slice-read-v : tie.Need-slice-read-v Inv-loop μ-loop
+slice-read-v c = search needs
 
 passes-requires : tie.Need-passes-requires Inv-loop μ-loop
-passes-requires c κs = let s = c .before .before .before .before .before in s .pre
+passes-requires c κs = search needs
 
 loop-holds : tie.Need-loop-holds Inv-loop μ-loop
-loop-holds c = let s = c .before .before .before .before .before .before in moving-starts _ _ _ _ _ (s .pre .0) (s .pre .1) (c .before .before .before .point-at .ensures) _ (c .passes .ensures)
+loop-holds c = moving-starts _ _ _ (c .before .before .before .before .pre) _ (c .passes .ensures)
 
 add-k : tie.Need-add-k Inv-loop μ-loop
-add-k c = let d = c .before .loop in omega (arith, moving-in _ _ _ _ _ (d .px) (d .py) (d .j) _ (d .inv), d .inv .size)
+add-k c = let d = c .before .loop in omega (arith, moving-in _ _ _ (d .keys) (d .j) _ (d .inv), d .inv .size)
 
-point-at-requires-2 : tie.Need-point-at-requires-2 Inv-loop μ-loop
-point-at-requires-2 c κs = let d = c .before .before .before .loop in (moving-more _ _ _ _ _ (d .px) (d .py) (d .j) _ (d .inv) (c .before .before .loop-test .taken), omega (arith, moving-more _ _ _ _ _ (d .px) (d .py) (d .j) _ (d .inv) (c .before .before .loop-test .taken), d .inv .even .both))
+mul-keys : tie.Need-mul-keys Inv-loop μ-loop
+mul-keys c = let d = c .before .loop in omega (arith, moving-more _ _ _ (d .keys) (d .j) _ (d .inv) (c .loop-test .taken), d .inv .size)
 
-put-point-requires : tie.Need-put-point-requires Inv-loop μ-loop
-put-point-requires c κs = let d = c .before .before .before .before .before .before .loop in (moving-in _ _ _ _ _ (d .px) (d .py) (d .j) _ (d .inv), omega (arith, moving-in _ _ _ _ _ (d .px) (d .py) (d .j) _ (d .inv), d .inv .even .both))
+slice-read-keys : tie.Need-slice-read-keys Inv-loop μ-loop
+slice-read-keys c = let d = c .before .before .loop in omega (arith, moving-more _ _ _ (d .keys) (d .j) _ (d .inv) (c .before .loop-test .taken))
+
+mul-keys-2 : tie.Need-mul-keys-2 Inv-loop μ-loop
+mul-keys-2 c = let d = c .before .before .loop in omega (arith, moving-in _ _ _ (d .keys) (d .j) _ (d .inv), d .inv .size)
+
+slice-write-keys : tie.Need-slice-write-keys Inv-loop μ-loop
+slice-write-keys c = let d = c .before .before .loop in moving-in _ _ _ (d .keys) (d .j) _ (d .inv)
 
 passes-requires-2 : tie.Need-passes-requires-2 Inv-loop μ-loop
-passes-requires-2 c κs =
-    let d = c .before .before .before .before .before .before .before .before .before .before .before .loop in
-    let r = moving-ready _ _ _ _ _ (d .px) (d .py) (d .j) _ (d .inv) (c .before .before .before .before .before .before .before .before .before .before .loop-test .taken) _ (c .before .before .before .before .before .before .before .point-at2 .ensures) _ _ (c .before .before .before .before .put-point .ensures .0) (c .before .before .before .before .put-point .ensures .1) in
-    r
+passes-requires-2 c κs = let d = c .before .before .before .loop in simp length-set (moving-more _ _ _ (d .keys) (d .j) _ (d .inv) (c .before .before .loop-test .taken))
 
 loop-less : tie.Need-loop-less Inv-loop μ-loop
-loop-less c = let d = c .before .before .before .before .before .before .before .before .before .before .before .before .loop in omega (arith, moving-more _ _ _ _ _ (d .px) (d .py) (d .j) _ (d .inv) (c .before .before .before .before .before .before .before .before .before .before .before .loop-test .taken), d .inv .size)
+loop-less c = let d = c .before .before .before .before .loop in omega (arith, moving-in _ _ _ (d .keys) (d .j) _ (d .inv), d .inv .size)
 
 loop-again : tie.Need-loop-again Inv-loop μ-loop
-loop-again c =
-    let d = c .before .before .before .before .before .before .before .before .before .before .before .before .loop in
-    moving-turn _ _ _ _ _ (d .px) (d .py) (d .j) _ (d .inv) (c .before .before .before .before .before .before .before .before .before .before .before .loop-test .taken) _ (c .before .before .before .before .before .before .before .before .point-at2 .ensures) _ _ (c .before .before .before .before .before .put-point .ensures .0) (c .before .before .before .before .before .put-point .ensures .1) _ refl _ (c .passes2 .ensures)
+loop-again c = let d = c .before .before .before .before .loop in moving-turn _ _ _ (d .keys) (d .j) _ (d .inv) (c .before .before .before .loop-test .taken) _ (c .passes2 .ensures)
 
-put-point-requires-2 : tie.Need-put-point-requires-2 Inv-loop μ-loop
-put-point-requires-2 c κs = let d = c .before .before .before .loop in (moving-in _ _ _ _ _ (d .px) (d .py) (d .j) _ (d .inv), omega (arith, moving-in _ _ _ _ _ (d .px) (d .py) (d .j) _ (d .inv), d .inv .even .both))
+mul-keys-3 : tie.Need-mul-keys-3 Inv-loop μ-loop
+mul-keys-3 c = let d = c .before .loop in omega (arith, moving-in _ _ _ (d .keys) (d .j) _ (d .inv), d .inv .size)
+
+slice-write-keys-2 : tie.Need-slice-write-keys-2 Inv-loop μ-loop
+slice-write-keys-2 c = let d = c .before .loop in moving-in _ _ _ (d .keys) (d .j) _ (d .inv)
 
 same-length : tie.Need-same-length Inv-loop μ-loop
-same-length c = let s = c .before .before .before .before .before .before .before .before .before .before .before .before .before in let d = c .before .before .before .before .before .before .loop in
-    let r = moving-ends _ _ _ _ _ (d .px) (d .py) (d .j) _ (d .inv) (c .before .before .before .before .before .loop-test .left) (subst (Within reach) (sym (c .before .before .before .before .before .before .before .before .before .before .point-at .ensures)) (s .pre .0 .near _ (s .pre .1))) _ _ (c .before .before .put-point2 .ensures .0) (c .before .before .put-point2 .ensures .1) in r .size
-
-same-length-2 : tie.Need-same-length-2 Inv-loop μ-loop
-same-length-2 c = let s = c .before .before .before .before .before .before .before .before .before .before .before .before .before in let d = c .before .before .before .before .before .before .loop in
-    let r = moving-ends _ _ _ _ _ (d .px) (d .py) (d .j) _ (d .inv) (c .before .before .before .before .before .loop-test .left) (subst (Within reach) (sym (c .before .before .before .before .before .before .before .before .before .before .point-at .ensures)) (s .pre .0 .near _ (s .pre .1))) _ _ (c .before .before .put-point2 .ensures .0) (c .before .before .put-point2 .ensures .1) in r .even .both ∙ r .size ∙ sym (s .pre .0 .both)
+same-length c = simp length-set (c .before .loop .inv .size)
 
 returns : tie.Need-returns Inv-loop μ-loop
-returns c = let s = c .before .before .before .before .before .before .before .before .before .before .before .before .before in let d = c .before .before .before .before .before .before .loop in
-    moving-ends _ _ _ _ _ (d .px) (d .py) (d .j) _ (d .inv) (c .before .before .before .before .before .loop-test .left) (subst (Within reach) (sym (c .before .before .before .before .before .before .before .before .before .before .point-at .ensures)) (s .pre .0 .near _ (s .pre .1))) _ _ (c .before .before .put-point2 .ensures .0) (c .before .before .put-point2 .ensures .1)
+returns c = let d = c .before .loop in moving-ends _ _ _ (d .keys) (d .j) _ (d .inv) (c .loop-test .left)
 
 pub settle-spec : {M : Type 1} → statement M
 settle-spec =
@@ -68,16 +67,19 @@ settle-spec =
     (tie.spec
     Inv-loop
     μ-loop
-    point-at-requires
+    mul-v
+    slice-read-v
     passes-requires
     loop-holds
     add-k
-    point-at-requires-2
-    put-point-requires
+    mul-keys
+    slice-read-keys
+    mul-keys-2
+    slice-write-keys
     passes-requires-2
     loop-less
     loop-again
-    put-point-requires-2
+    mul-keys-3
+    slice-write-keys-2
     same-length
-    same-length-2
     returns)

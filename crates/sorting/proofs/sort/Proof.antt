@@ -1,51 +1,45 @@
-use mathlib.Core.Path.{refl, sym, _∙_}
+-- `sorting::sort`: of the buffer, a key for each point is lent.
+use mathlib.Core.Path.{sym}
 use native.Mathlib.Omega.{arith}
-use Rattle.sorting.specs.Points.{Under}
-use Rattle.sorting.proofs.Moves.{sorting-starts, sorting-turn, sorting-ends}
+use Prim.Native.Nat.{_≤_}
+use lib.ListN.{length}
+use lib.Seq.{length-take-le}
+use borrow.Author.Needs.{needs}
 use Rattle.sorting.proofs.sort.Statement.{statement}
 use Rattle.sorting.proofs.sort.Tie as tie
 
-abbrev Inv-loop : tie.InvT-loop
-Inv-loop px₀ py₀ s i₀ px py i = Under px₀ py₀ s px py i
+key-buffer-requires : tie.Need-key-buffer-requires
+key-buffer-requires c κs = search needs
 
-abbrev μ-loop : tie.MeasureT-loop
-μ-loop px₀ py₀ s i₀ px py i = i
+array-borrow-prefix-keys : tie.Need-array-borrow-prefix-keys
+array-borrow-prefix-keys c = search needs
 
-loop-holds : tie.Need-loop-holds Inv-loop μ-loop
-loop-holds c = sorting-starts _ _ _ (c .pre) _ refl
+room : (c : tie.After-keys) → length (c .before .before .before .before .args .px .now) ≤ length (c .before .before .before .key-buffer .result)
+room c = omega (arith, c .before .before .before .key-buffer .ensures, c .before .before .before .before .pre .1 .1)
 
-sub-i : tie.Need-sub-i Inv-loop μ-loop
-sub-i c = omega arith
+slice-aggregate-sort-by : tie.Need-slice-aggregate-sort-by
+slice-aggregate-sort-by c = sym (length-take-le _ _ (room c))
 
-settle-requires : tie.Need-settle-requires Inv-loop μ-loop
-settle-requires c κs = let u = c .before .before .before .loop .inv in (u .even, omega (arith, c .before .before .loop-test .taken, u .low, u .size))
+sort-by-requires : tie.Need-sort-by-requires
+sort-by-requires c κs = let p = c .before .before .before .before .pre in ((p .0, p .1 .0), length-take-le _ _ (room c))
 
-loop-less : tie.Need-loop-less Inv-loop μ-loop
-loop-less c = omega (arith, c .before .before .before .before .before .loop-test .taken)
+same-length : tie.Need-same-length
+same-length c = search needs
 
-loop-again : tie.Need-loop-again Inv-loop μ-loop
-loop-again c = let d = c .before .before .before .before .before .before .loop in sorting-turn _ _ _ (d .px) (d .py) (d .i) _ (d .inv) (omega (arith, c .before .before .before .before .before .loop-test .taken)) _ _ (c .before .before .settle .ensures)
+same-length-2 : tie.Need-same-length-2
+same-length-2 c = search needs
 
-same-length : tie.Need-same-length Inv-loop μ-loop
-same-length c = c .before .loop .inv .size
-
-same-length-2 : tie.Need-same-length-2 Inv-loop μ-loop
-same-length-2 c = let u = c .before .loop .inv in u .even .both ∙ u .size ∙ sym (c .before .before .pre .both)
-
-returns : tie.Need-returns Inv-loop μ-loop
-returns c = let d = c .before .loop in sorting-ends _ _ _ (d .px) (d .py) (d .i) (d .inv) (omega (arith, c .loop-test .left))
+returns : tie.Need-returns
+returns c = search needs
 
 pub sort-spec : {M : Type 1} → statement M
 sort-spec =
     tie.close
     (tie.spec
-    Inv-loop
-    μ-loop
-    loop-holds
-    sub-i
-    settle-requires
-    loop-less
-    loop-again
+    key-buffer-requires
+    array-borrow-prefix-keys
+    slice-aggregate-sort-by
+    sort-by-requires
     same-length
     same-length-2
     returns)

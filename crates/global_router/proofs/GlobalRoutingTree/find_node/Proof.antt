@@ -13,7 +13,7 @@ find-node-requires : tie.Need-find-node-requires
 find-node-requires c κs = search needs
 
 returns : tie.Need-returns
-returns c = ap lookedUp (named-is (c .before .to-table .ensures .1) (c .before .to-table .ensures .0) _ (c .find-node .result) (c .find-node .ensures))
+returns c = ap lookedUp (named-is (c .before .to-table .result) (c .before .to-table .ensures .0) _ (c .find-node .result) (c .find-node .ensures))
 
 pub find-node-spec : {M : Type 1} → statement M
 find-node-spec = tie.close (tie.spec to-table-requires find-node-requires returns)

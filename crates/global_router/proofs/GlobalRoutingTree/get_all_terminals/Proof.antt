@@ -1,7 +1,8 @@
 -- `GlobalRoutingTree::get_all_terminals`: of the tree's columns.
 use mathlib.Core.Path.{ap}
+use Rattle.tree.specs.Tree.{Tree}
 use Rattle.tree.specs.Measures.{terminalNodes}
-use Rattle.global_router.proofs.Reading.{lends, nodes-of, answers-of}
+use Rattle.output.proofs.Answering.{answers-of}
 use borrow.Author.Needs.{needs}
 use Rattle.global_router.proofs.GlobalRoutingTree.get_all_terminals.Statement.{statement}
 use Rattle.global_router.proofs.GlobalRoutingTree.get_all_terminals.Tie as tie
@@ -9,19 +10,15 @@ use Rattle.global_router.proofs.GlobalRoutingTree.get_all_terminals.Tie
 to-table-requires : tie.Need-to-table-requires
 to-table-requires c κs = search needs
 
-wide-requires : tie.Need-wide-requires
-wide-requires c κs = search needs
-
 write-terminals-requires : tie.Need-write-terminals-requires
-write-terminals-requires c κs = lends (c .before .before .before .before .before .before .before .before .before .before .before .before .before .before .before .before .before .before .before .before .to-table .ensures .1) (c .before .before .before .before .before .before .before .before .before .before .before .before .before .before .before .before .before .before .wide .ensures)
+write-terminals-requires c κs = search needs
 
 same-length : tie.Need-same-length
 same-length c = search needs
 
 returns : tie.Need-returns
-returns c = answers-of (ap terminalNodes (nodes-of (c .before .before .before .before .before .before .before .before .before .before .before .before .before .before .before .before .before .before .before .before .before .before .before .to-table .ensures .1) (c .before .before .before .before .before .before .before .before .before .before .before .before .before .before .before .before .before .before .before .before .before .wide .ensures) (c .before .before .before .before .before .before .before .before .before .before .before .before .before .before .before .before .before .before .before .before .before .before .before .to-table .ensures .0))) (c .before .before .write-terminals .ensures)
+returns c = answers-of (ap (λ (t : Tree). terminalNodes (t .nodes)) (c .before .before .before .before .to-table .ensures .0)) (c .before .before .write-terminals .ensures)
 
 pub get-all-terminals-spec : {M : Type 1} → statement M
 get-all-terminals-spec =
-    tie.close
-    (tie.spec to-table-requires wide-requires write-terminals-requires same-length returns)
+    tie.close (tie.spec to-table-requires write-terminals-requires same-length returns)

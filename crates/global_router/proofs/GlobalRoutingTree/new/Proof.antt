@@ -15,11 +15,22 @@ refused-requires c κs = search needs
 returns : tie.Need-returns
 returns c = new-refused _ _ (c .before .before .outside .ensures) (c .before .if1 .taken) (c .refused .ensures)
 
-begin-requires : tie.Need-begin-requires
-begin-requires c κs = within _ (sym (c .before .outside .ensures) ∙ c .if1 .left)
+source-alone-requires : tie.Need-source-alone-requires
+source-alone-requires c κs = within _ (sym (c .before .outside .ensures) ∙ c .if1 .left)
+
+answered-requires : tie.Need-answered-requires
+answered-requires c κs = search needs
 
 returns-2 : tie.Need-returns-2
-returns-2 c = new-given _ _ (c .before .before .outside .ensures) (c .before .if1 .left) (gives _ _ (c .begin .ensures .0) (c .begin .ensures .1))
+returns-2 c = new-given _ _ (c .before .before .before .outside .ensures) (c .before .before .if1 .left) (gives _ _ _ (c .before .source-alone .ensures .0) (c .answered .ensures))
 
 pub new-spec : {M : Type 1} → statement M
-new-spec = tie.close (tie.spec outside-requires refused-requires returns begin-requires returns-2)
+new-spec =
+    tie.close
+    (tie.spec
+    outside-requires
+    refused-requires
+    returns
+    source-alone-requires
+    answered-requires
+    returns-2)

@@ -1,8 +1,8 @@
 -- `GlobalRoutingTree::put_tree_structure`: of the tree's columns.
 use mathlib.Core.Path.{ap}
-use Rattle.text.specs.Text.{textOf}
-use Rattle.global_router.proofs.Reading.{lends, nodes-of}
 use Rattle.wire.specs.Puts.{puts-as}
+use Rattle.tree.specs.Tree.{Tree}
+use Rattle.text.specs.Text.{textOf}
 use borrow.Author.Needs.{needs}
 use Rattle.global_router.proofs.GlobalRoutingTree.put_tree_structure.Statement.{statement}
 use Rattle.global_router.proofs.GlobalRoutingTree.put_tree_structure.Tie as tie
@@ -10,18 +10,15 @@ use Rattle.global_router.proofs.GlobalRoutingTree.put_tree_structure.Ti
 to-table-requires : tie.Need-to-table-requires
 to-table-requires c κs = search needs
 
-wide-requires : tie.Need-wide-requires
-wide-requires c κs = search needs
-
 put-text-requires : tie.Need-put-text-requires
-put-text-requires c κs = lends (c .before .before .before .before .before .before .before .before .before .before .before .before .before .before .before .before .before .before .before .before .to-table .ensures .1) (c .before .before .before .before .before .before .before .before .before .before .before .before .before .before .before .before .before .before .wide .ensures)
+put-text-requires c κs = search needs
 
 same-length : tie.Need-same-length
 same-length c = search needs
 
 returns : tie.Need-returns
-returns c = puts-as (c .before .before .put-text .ensures) (ap textOf (nodes-of (c .before .before .before .before .before .before .before .before .before .before .before .before .before .before .before .before .before .before .before .before .before .before .before .to-table .ensures .1) (c .before .before .before .before .before .before .before .before .before .before .before .before .before .before .before .before .before .before .before .before .before .wide .ensures) (c .before .before .before .before .before .before .before .before .before .before .before .before .before .before .before .before .before .before .before .before .before .before .before .to-table .ensures .0)))
+returns c = puts-as (c .before .before .put-text .ensures) (ap (λ (t : Tree). textOf (t .nodes)) (c .before .before .before .before .to-table .ensures .0))
 
 pub put-tree-structure-spec : {M : Type 1} → statement M
 put-tree-structure-spec =
-    tie.close (tie.spec to-table-requires wide-requires put-text-requires same-length returns)
+    tie.close (tie.spec to-table-requires put-text-requires same-length returns)
