@@ -9,9 +9,6 @@ use Rattle.tree.specs.Limits.{noLimit}
 use Rattle.tree.specs.Tree.{Tree}
 use Rattle.tree.specs.Route.{rooted}
 use Rattle.job.specs.Job.{outside}
-use Rattle.job.specs.declared.RoutingJob.{RoutingJob}
-use Rattle.job.specs.Reading.{packed, unpacked}
-use Rattle.job.specs.Accepted.{Accepted}
 use Rattle.nodes.specs.declared.Table.{Table}
 use Rattle.nodes.specs.Table.{tableTree}
 use Rattle.route.specs.Routing.{Routing, refused, routed}
@@ -40,11 +37,6 @@ pub record Outcomes (x : Routing) (r : Outcome) : Type 0 where
   pub stored : Stored (r .tree)
 
 -- ---- inner contracts
--- a job in memory that was accepted
-pub record Sound (j : RoutingJob) : Type 0 where
-  pub packing : j ≡ packed (unpacked j)
-  pub accepted : Accepted (unpacked j)
-
 -- an answer, and in memory the tree that stands in t
 pub record Answered (a : Answer) (t : Table) (r : Outcome) : Type 0 where
   pub answer : r .answer ≡ a

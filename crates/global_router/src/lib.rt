@@ -4,7 +4,6 @@ use editing::NodeType;
 use editing::ParentName;
 use geometry::Point;
 use geometry::Rectangle;
-use job::Mode;
 use job::ReadAnswer;
 use job::RoutingJob;
 use joining::Counts;
@@ -18,19 +17,17 @@ use tree::SteinerNumber;
 use tree::TerminalNumber;
 ghost use mathlib.Core.Path.{_≡_};
 ghost use Prim.Native.Nat.{_≤_};
-ghost use Rattle.geometry.specs.Laws.{Within};
 ghost use Rattle.geometry.specs.Geometry.{origin};
-ghost use Rattle.tree.specs.Limits.{reach};
 ghost use Rattle.tree.specs.Tree.{total};
 ghost use Rattle.tree.specs.Measures.{worst, steinerNodes, terminalNodes};
 ghost use Rattle.tree.specs.Memory.{nameIn};
 ghost use Rattle.job.specs.Reading.{unpacked};
-ghost use Rattle.wire.specs.Puts.{Puts};
 ghost use Rattle.output.specs.Answer.{Answers};
 ghost use Rattle.text.specs.Text.{textOf};
 ghost use Rattle.tree_bytes.specs.TreeBytes.{treeBytes};
 ghost use Rattle.nodes.specs.Nodes.{lookupOf};
 ghost use Rattle.nodes.specs.Table.{tableTree, Tabled};
+ghost use Rattle.job_tables.specs.Jobs.{Sound};
 ghost use Rattle.route.specs.Routing.{refused, routed, treeFor, routeOf};
 ghost use Rattle.route.specs.Demand3.{Owed};
 ghost use Rattle.tree.specs.Optimize.{optimize};
@@ -39,7 +36,7 @@ ghost use Rattle.rectangles.specs.Rectangles.{room};
 ghost use Rattle.editing.specs.Edits.{nodeNamed, insertSteinerNode, insertTerminalNode, insertNodeOnBranch, insertTerminalWithSteiner, insertTerminalWithConstraints};
 ghost use Rattle.editing.specs.Editing.{parentNameOf, kindIn};
 ghost use Rattle.global_router.specs.Stored.{treeOf, countsOf, Stored};
-ghost use Rattle.global_router.specs.Calls.{Outcomes, answerOf, newOf, Sound, Answered, begun};
+ghost use Rattle.global_router.specs.Calls.{Outcomes, answerOf, newOf, Answered};
 ghost use Rattle.global_router.specs.Editing.{EditedTo, EditedBy, Finished, chosen};
 ghost use Rattle.global_router.specs.Reading.{lookedUp, PathAnswers};
 
@@ -55,18 +52,6 @@ pub struct GlobalRoutingTree {
     worst_wirelength: u32,
     allowed: i32,
     farthest: u32,
-}
-
-// The columns of a source alone: a route to no terminals.
-fn source_alone(s: Point) -> Table
-    requires { ⌜ Within reach s ⌝ }
-    ensures is { λ r. ⌜ tableTree r ≡ begun s ⌝ }
-    ensures tabled { λ r. ⌜ Tabled r ⌝ }
-{
-    let mut xs = [0i32; 1];
-    let mut ys = [0i32; 1];
-    let ks = [0i32; 1];
-    route::plan(&mut xs[..0], &mut ys[..0], &ks[..0], s, Mode::Simple)
 }
 
 // A tree that stands in columns.
@@ -108,8 +93,8 @@ fn counts_of(g: GlobalRoutingTree) -> Counts
     }
 }
 
-// And back to columns.
-fn to_table(g: GlobalRoutingTree) -> Table
+// The tree as columns by value, for those who read it; nobody else can make a tree of them again.
+pub fn to_table(g: GlobalRoutingTree) -> Table
     requires { ⌜ Stored g ⌝ }
     ensures is { λ r. ⌜ tableTree r ≡ treeOf g ⌝ }
     ensures tabled { λ r. ⌜ Tabled r ⌝ }
@@ -141,22 +126,6 @@ fn to_table(g: GlobalRoutingTree) -> Table
         allowed: g.allowed,
         farthest: g.farthest,
     }
-}
-
-// The columns of the tree of a job that was accepted.
-fn planned(j: RoutingJob) -> Table
-    requires { ⌜ Sound j ⌝ }
-    ensures is { λ r. ⌜ tableTree r ≡ treeFor (unpacked j) ⌝ }
-    ensures tabled { λ r. ⌜ Tabled r ⌝ }
-{
-    let mut xs = j.terminal_xs;
-    let mut ys = j.terminal_ys;
-    let ks = j.keepouts;
-    let t = j.terminal_count;
-    let k = 4 * j.keepout_count;
-    let s = j.source;
-    let mode = j.mode;
-    route::plan(&mut xs[..t], &mut ys[..t], &ks[..k], s, mode)
 }
 
 // The answer of a call that gives a tree: its refusal's number, or that it is done.
@@ -195,7 +164,7 @@ fn answered(answer: Answer, t: Table) -> Outcome
 fn refused(n: u8) -> Outcome
     ensures { λ r. ⌜ Outcomes (refused n) r ⌝ }
 {
-    let t = source_alone(origin());
+    let t = job_tables::source_alone(origin());
     answered(Answer::Refused(n), t)
 }
 
@@ -207,7 +176,7 @@ impl GlobalRoutingTree {
         if job::outside(source_position) {
             return refused(5);
         }
-        let t = source_alone(source_position);
+        let t = job_tables::source_alone(source_position);
         answered(Answer::Done, t)
     }
 
@@ -274,15 +243,6 @@ impl GlobalRoutingTree {
     {
         let t = to_table(self);
         reading::write_text(t, out)
-    }
-
-    // The text at a place of a buffer: what would stand past the end is left out, and still counts.
-    pub fn put_tree_structure(self, out: &mut [u8], at: usize) -> usize
-        requires { ⌜ Stored self ⌝ }
-        ensures { λ r. ⌜ Puts (now (out .entry)) at (textOf (treeOf self .nodes)) (now (out .exit)) r ⌝ }
-    {
-        let t = to_table(self);
-        reading::put_text(t, out, at)
     }
 
     // The tree bytes. Refusal: 11.
@@ -450,7 +410,7 @@ impl GlobalRoutingTree {
     }
 
     // A terminal where the search finds, with the tree's own limit as its allowance. The keepouts are a lent list of rectangle records. A caller that the
-    // borrow checker covers cannot lend one: it has the flat call. Refusals: 5, 2, 6, 10.
+    // borrow checker covers cannot lend one: the crate `listed` does, of a list by value. Refusals: 5, 2, 6, 10.
     pub fn insert_terminal_with_steiner(self, point: Point, keepouts: &[Rectangle]) -> Edited
         requires { ⌜ Stored self ⌝ }
         ensures { λ r. ⌜ EditedTo (insertTerminalWithSteiner (treeOf self) «point» (now («keepouts» .entry))) self r ⌝ }
@@ -491,7 +451,7 @@ fn accepted(j: RoutingJob) -> Outcome
     requires { ⌜ Sound j ⌝ }
     ensures { λ r. ⌜ Outcomes (routed (treeFor (unpacked j))) r ⌝ }
 {
-    let t = planned(j);
+    let t = job_tables::planned(j);
     answered(Answer::Done, t)
 }
 

@@ -94,8 +94,9 @@ fn write_tree(t: GlobalRoutingTree, out: &mut [u8]) -> Answer
     ensures { λ r. ⌜ Answers (treeOutput (treeOf t)) (now (out .entry)) r (now (out .exit)) ⌝ }
 {
     let f = read_figures(t);
+    let columns = global_router::to_table(t);
     let mut text = output_buffer();
-    let m = t.put_tree_structure(&mut text, 0);
+    let m = reading::put_text(columns, &mut text, 0);
     if MOST_TEXT < m {
         return write_refusal(output::NO_ROOM, out);
     }

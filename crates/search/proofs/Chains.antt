@@ -28,7 +28,8 @@ stack-length st zero = refl
 stack-length st (suc k) = ap suc (stack-length st k)
 
 -- ---- chains
-chain-short : (k : ℕ) (prev : List ℕ) (l : ℕ) → length (chainOf k prev l) ≤ k
+-- no chain is longer than its column
+pub chain-short : (k : ℕ) (prev : List ℕ) (l : ℕ) → length (chainOf k prev l) ≤ k
 unfolding chainOf
 chain-short zero prev l = omega arith
 chain-short (suc k) prev l = by (eqb l noNode) (chain-short k prev (getD prev l 0))

@@ -1,11 +1,12 @@
 // Terminals in two columns, sorted by distance from the source, then x, then y.
-// Within reach the three fit one number of 64 bits, their key, which orders as they do: keys are sorted, and read back.
+// Within reach the three fit one number of 64 bits, so that a point and its distance move in one piece: these keys are sorted, and read back.
 use geometry::Point;
 ghost use mathlib.Core.Path.{_≡_};
 ghost use mathlib.Core.List.{_++_};
 ghost use Prim.Native.Nat.{ℕ, _+_, _<_, _≤_};
 ghost use lib.IntN.{pos, _-ℤ_};
 ghost use lib.ListN.{length, getD, set, take, drop};
+ghost use lib.Dec.{ltb};
 ghost use Rattle.geometry.specs.Geometry.{gap};
 ghost use Rattle.geometry.specs.Laws.{Within};
 ghost use Rattle.tree.specs.Limits.{reach, mostTerminals};
@@ -17,6 +18,9 @@ const LEAST: i32 = -1000000;
 
 // A coordinate has 21 bits of a key.
 const PART: u64 = 2097152;
+
+// And both coordinates 42, below the distance.
+const PARTS: u64 = 4398046511104;
 
 // ---- points
 
@@ -106,14 +110,37 @@ fn read_keys(keys: &[u64], px: &mut [i32], py: &mut [i32])
 
 // ---- sorting keys
 
-// The key after j is less than v.
+// Three keys in turn: v stands after w by distance, then by x, then by y.
+fn stands_after(v: u64, w: u64) -> bool
+    ensures { λ r. ⌜ r ≡ ltb w v ⌝ }
+{
+    let d = v / PARTS;
+    let e = w / PARTS;
+    if d < e {
+        return false;
+    }
+    if e < d {
+        return true;
+    }
+    let x = v / PART % PART;
+    let u = w / PART % PART;
+    if x < u {
+        return false;
+    }
+    if u < x {
+        return true;
+    }
+    w % PART < v % PART
+}
+
+// The key after j stands before v.
 fn passes(keys: &[u64], j: usize, v: u64) -> bool
     requires { ⌜ j < length (now keys) ⌝ }
     ensures { λ r. ⌜ r ≡ passesKey (now (keys .entry)) j v ⌝ }
 {
     let k = j + 1;
     if k < keys.len() {
-        return keys[k] < v;
+        return stands_after(v, keys[k]);
     }
     false
 }

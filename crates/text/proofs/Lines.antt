@@ -112,16 +112,6 @@ module _ {ns : List Node} {c : Columns} {n : ℕ} (v : Read ns c n) where
             (sym (each-snoc g (reverse (chain (c .prev) (getD (c .prev) x 0))) x)
             ∙ ap (each g) (sym (ap reverse (rest .is) ∙ reverse-cons x (chain (c .prev) (getD (c .prev) x 0)))))
 
--- no chain is longer than its column
-pub chain-short : (k : ℕ) (prev : List ℕ) (l : ℕ) → length (chainOf k prev l) ≤ k
-unfolding chainOf
-chain-short zero prev l = omega arith
-chain-short (suc k) prev l = by (eqb l noNode) (chain-short k prev (getD prev l 0))
-  where
-    by : (t : Bool) → length (chainOf k prev (getD prev l 0)) ≤ k → length (cond t [] (l ∷ chainOf k prev (getD prev l 0))) ≤ suc k
-    by true h = omega arith
-    by false h = omega arith
-
 -- ---- the whole
 pub whole : {ns : List Node} {c : Columns} {n : ℕ} → Read ns c n → textFrom ns n 0 0 ≡ textOf ns
 whole {ns} v = ap (λ (k : ℕ). textFrom ns k 0 0) (sym (v .size))

@@ -5,8 +5,9 @@ use denote.Ref.{now}
 use lib.ListN.{length, getD}
 use Rattle.wire.specs.Puts.{puts-as, puts-none, puts-then, puts-length}
 use Rattle.search.specs.Columns.{chain}
+use Rattle.search.proofs.Chains.{chain-short}
 use Rattle.measures.proofs.Lent.{read}
-use Rattle.text.proofs.Lines.{node-none, node-some, children-below, none-left, here, siblings, shorter, with-last, chain-short}
+use Rattle.text.proofs.Lines.{node-none, node-some, children-below, none-left, here, siblings, shorter, with-last}
 use Prim.Native.Nat.{ℕ, _<_}
 use borrow.Fn.Kinds.{In}
 use borrow.Fn.PlainCycle.{Measures, is, falls, and}

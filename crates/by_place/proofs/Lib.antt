@@ -1,0 +1,3 @@
+-- What the proofs use.
+mod Home
+mod Lent

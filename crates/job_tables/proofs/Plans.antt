@@ -1,0 +1,38 @@
+-- A plan is a table that keeps its tree; and the plan for no terminals is the tree of the source alone.
+use Prim.Native.Nat.{ℕ, _≤_}
+use mathlib.Core.Path.{_≡_, refl, _∙_}
+use mathlib.Core.List.{List, []}
+use native.Mathlib.Omega.{arith}
+use lib.ListN.{length}
+use lib.IntN.{ℤ, pos}
+use Rattle.geometry.specs.declared.Point.{Point}
+use Rattle.tree.specs.Limits.{mostTerminals, noLimit}
+use Rattle.tree.specs.Route.{inserts, rooted}
+use Rattle.job.specs.declared.Mode.{Mode}
+use Rattle.job.specs.declared.Mode.the-variants.{Simple}
+use Rattle.sorting.specs.Points.{seg}
+use Rattle.joining.specs.Store.{nodeOf}
+use Rattle.joining.proofs.Reading.{length-upto}
+use Rattle.nodes.specs.declared.Table.{Table}
+use Rattle.nodes.specs.Table.{tableColumns, tableTree, Tabled}
+use Rattle.route.specs.Plan.{Planned}
+
+module _ {ks px py : List ℤ} {s : Point} {mode : Mode} (t : Table) (p : Planned ks px py s mode t) where
+  pub plan-tabled : length px ≤ mostTerminals → Tabled t
+  plan-tabled few =
+      let size = length-upto (nodeOf (tableColumns t)) (t .counts .nodes) in
+      record {
+        formed = p .formed;
+        keeps = p .keeps;
+        sized = p .sized;
+        back = p .back;
+        few = omega (arith, size, p .counted .size, p .counted .steiners, p .next, few);
+        steiners = omega (arith, p .counted .steiners, p .next, few);
+        limit-small = p .limit-small;
+        farthest-small = p .farthest-small;
+      }
+
+-- ---- no terminals
+pub alone-is : {ks : List ℤ} {s : Point} (t : Table) → Planned ks [] [] s Simple t → tableTree t ≡ rooted s (pos noLimit) 0 noLimit
+unfolding seg inserts
+alone-is t p = p .tree ∙ refl
