@@ -39,9 +39,13 @@ compile --crate-type rlib --crate-name physdes --edition 2021 --cap-lints allow 
 
 compile --crate-name oracle --edition 2021 --extern physdes="$out/libphysdes.rlib" "$root/compare/driver/oracle.rs"
 
-# `build.sh leaves` links our leaf crates too.
-if [ "${1:-}" = leaves ]; then
-    (cd "$root" && rt staticlib leaf_calls)
-    compile --crate-name leaves --edition 2021 --extern physdes="$out/libphysdes.rlib" \
-        -L native="$root/target/staticlib" -l static=leaf_calls "$root/compare/driver/leaves.rs"
-fi
+# `build.sh leaves` and `build.sh calls` link a static library of ours too: the leaf crates' calls, or the router's.
+linked() {
+    (cd "$root" && rt staticlib "$2")
+    compile --crate-name "$1" --edition 2021 --extern physdes="$out/libphysdes.rlib" \
+        -L native="$root/target/staticlib" -l static="$2" "$root/compare/driver/$1.rs"
+}
+case ${1:-} in
+leaves) linked leaves leaf_calls ;;
+calls) linked calls exports ;;
+esac

@@ -1,6 +1,6 @@
 #!/usr/bin/env bash
 # Compares our crates and programs with the published Rust. README.md says what each word compares.
-# usage: compare/run.sh samples | leaves [SEED [CASES]] | jobs [SEED [CASES]] | edits [SEED [CASES]]
+# usage: compare/run.sh samples | leaves [SEED [CASES]] | calls [SEED [CASES]] | jobs [SEED [CASES]] | edits [SEED [CASES]]
 set -euo pipefail
 root=$(cd "$(dirname "$0")/.." && pwd)
 out=$root/target/compare
@@ -23,6 +23,10 @@ samples)
 leaves)
     "$root/compare/build.sh" leaves
     "$out/leaves" "$seed" "${3:-2000000}"
+    ;;
+calls)
+    "$root/compare/build.sh" calls
+    "$out/calls" "$seed" "${3:-20000}"
     ;;
 jobs | edits)
     if [ "$what" = jobs ]; then ours=${ROUTEPLAN:-$root/target/bin/routeplan}; else ours=${EDITS:-$root/target/bin/edits}; fi

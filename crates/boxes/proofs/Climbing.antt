@@ -21,9 +21,9 @@ use Rattle.tree.proofs.Linking.{none-at, parent-in, not-own}
 use Rattle.tree.proofs.Measuring.{at-inj}
 use Rattle.tree.proofs.Searching.{own}
 use Rattle.search.specs.Boxes.{boxAt, Covers}
-use Rattle.joining.specs.Store.{parentFrom}
+use Rattle.joining.specs.Store.{parentFrom, ParentsIn}
 use Rattle.joining.proofs.Agree.{has-count}
-use Rattle.boxes.specs.Covering.{widen, HasPoint, HasBox, Put, Lacks, ParentsIn, Raised, Climbed}
+use Rattle.boxes.specs.Covering.{widen, HasPoint, HasBox, Put, Lacks, Raised, Climbed}
 use Rattle.boxes.proofs.Hulls.{has-point, point-test, box-test, point-then, box-then, widen-box, widen-least, widen-both, own-box}
 
 pub same-boxes : {a a′ b b′ : Rectangle} → a′ ≡ a → b′ ≡ b → HasBox a b → HasBox a′ b′

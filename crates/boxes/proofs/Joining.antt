@@ -26,8 +26,9 @@ use Rattle.search.specs.declared.Join.the-variants.{Onto, Split}
 use Rattle.search.specs.Find.{joinOf}
 use Rattle.search.specs.Walk.{pointAt}
 use Rattle.search.specs.Boxes.{boxAt, Covers}
+use Rattle.joining.specs.Store.{ParentsIn}
 use Rattle.joining.proofs.Agree.{count-has}
-use Rattle.boxes.specs.Covering.{pointBox, widen, HasPoint, HasBox, Room, Put, Lacks, ParentsIn, Climbed, Shown, JoinCovered, SplitCovered, Coverable, EndsIn}
+use Rattle.boxes.specs.Covering.{pointBox, widen, HasPoint, HasBox, Room, Put, Lacks, Climbed, Shown, JoinCovered, SplitCovered, Coverable, EndsIn}
 use Rattle.boxes.proofs.Hulls.{has-point, has-box, own-point, as-box, point-then, box-then, widen-point, widen-box, widen-least, has-nearest}
 use Rattle.boxes.proofs.Climbing.{same-boxes}
 

@@ -21,7 +21,7 @@ use Rattle.search.specs.Find.{joinOf}
 use Rattle.search.specs.Walk.{pointAt}
 use Rattle.search.specs.Boxes.{boxAt, Covers}
 use Rattle.joining.specs.declared.Counts.{Counts}
-use Rattle.joining.specs.Store.{Store, parentFrom}
+use Rattle.joining.specs.Store.{Store, ParentsIn}
 use Rattle.joining.specs.Standing.{Stores, At, Joined}
 
 -- ---- one box
@@ -74,10 +74,6 @@ pub record Lacks (ns : List Node) (f : ℕ) (q : Point) (lows highs : List ℤ) 
   pub own : (i : ℕ) → i < length ns → HasPoint (boxAt lows highs i) (nodeAt ns i .point)
   pub below : (a b : ℕ) → a ≢ f → nodeAt ns b .parent ≡ at a → HasBox (boxAt lows highs a) (boxAt lows highs b)
   pub but : (b : ℕ) → nodeAt ns b .parent ≡ at f → HasBox (widen (boxAt lows highs f) q) (boxAt lows highs b)
-
--- the parents stand in a column
-abbrev pub ParentsIn : List Node → List ℕ → Type 0
-ParentsIn ns parent = (i : ℕ) → i < length ns → nodeAt ns i .parent ≡ parentFrom (getD parent i 0)
 
 -- what node i's box lacked, that of r may lack now: r is its parent, or no node
 abbrev pub Raised : List ℕ → ℕ → Point → List ℤ → List ℤ → ℕ → List ℤ → List ℤ → Type 0

@@ -17,9 +17,9 @@ ghost use Rattle.tree.specs.WellFormed.{newNodes};
 ghost use Rattle.search.specs.Find.{joinOf};
 ghost use Rattle.search.specs.Boxes.{boxAt, Covers};
 ghost use Rattle.joining.specs.Links.{links};
-ghost use Rattle.joining.specs.Store.{rowsOf, store};
+ghost use Rattle.joining.specs.Store.{rowsOf, store, ParentsIn};
 ghost use Rattle.joining.specs.Standing.{Standing, At};
-ghost use Rattle.boxes.specs.Covering.{pointBox, stretch, widen, Room, Put, Raised, Climbed, ParentsIn, Shown, JoinCovered, SplitCovered, Coverable, EndsIn, JoinedUnder};
+ghost use Rattle.boxes.specs.Covering.{pointBox, stretch, widen, Room, Put, Raised, Climbed, Shown, JoinCovered, SplitCovered, Coverable, EndsIn, JoinedUnder};
 
 // How many numbers a column of boxes has: two for each node.
 pub const BOUNDS: usize = 500;

@@ -1,9 +1,11 @@
 // The decimal text of an integer, written at a place of a lent buffer: a minus sign below zero, no leading zeros.
-// Each digit is counted by subtracting a power of ten: no division and no remainder.
+// Each digit is how many multiples of a power of ten are at most what is left, and these are subtracted: no division and no remainder.
 // `put_u32` and `put_i32` are for writers that measure and write by the same code: a byte past the end is left out and still counts.
 // `write_i32` writes the whole text or nothing.
 ghost use mathlib.Core.Path.{_≡_};
 ghost use Prim.Native.Nat.{_+_, _*_, _<_, _≤_, _^_, _/_, _%_};
+ghost use mathlib.Core.Bool.{cond};
+ghost use lib.Dec.{leb};
 ghost use lib.IntN.{natAbs};
 ghost use lib.ListN.{length};
 ghost use Rattle.wire.specs.Puts.{Puts};
@@ -45,18 +47,29 @@ struct Digit {
     rest: u32,
 }
 
-// The digit of m at the place of `unit`, its first: `unit` is taken off as often as it goes.
+// 1 if a is at most b, and 0 if not.
+fn at_most(a: u64, b: u64) -> u32
+    ensures { λ r. ⌜ r ≡ cond (leb a b) 1 0 ⌝ }
+{
+    if a <= b { 1 } else { 0 }
+}
+
+// The digit of m at the place of `unit`, its first: how many of 1 to 9 times `unit` are at most m. All nine are compared, whatever the digit,
+// so that no branch depends on it: a digit is hard to predict.
 fn first_digit(m: u32, unit: u32) -> Digit
     requires { ⌜ (0 < unit) × (m < 10 * unit) ⌝ }
     ensures { λ r. ⌜ (r .byte ≡ 48 + m / unit) × (r .rest ≡ m % unit) ⌝ }
 {
-    let mut byte: u8 = ZERO;
-    let mut rest = m;
-    while unit <= rest {
-        rest = rest - unit;
-        byte = byte + 1;
+    let mut n: u32 = 0;
+    let mut k: u32 = 1;
+    while k < 10 {
+        n = n + at_most((k as u64) * (unit as u64), m as u64);
+        k = k + 1;
     }
-    Digit { byte, rest }
+    Digit {
+        byte: ZERO + (n as u8),
+        rest: m - n * unit,
+    }
 }
 
 // The last `count` digits of m, which has no more.

@@ -14,10 +14,6 @@ use mir.ValLaws.{toZ-pos, toZ-ofZ}
 use Rattle.tree.specs.Tree.{Tree}
 use Rattle.route.specs.Routing.{Routing, refused, routed}
 use Rattle.tree_bytes.specs.TreeBytes.{treeBytes}
-use Rattle.global_router.specs.declared.Answer as G
-use Rattle.global_router.specs.declared.Outcome.{Outcome}
-use Rattle.global_router.specs.Stored.{treeOf}
-use Rattle.global_router.specs.Calls.{Outcomes, answerOf}
 use Rattle.output.specs.declared.Answer.{Answer}
 use Rattle.output.specs.declared.Answer.the-variants.{Wrote, Refused}
 use Rattle.output.specs.Answer.{noRoom, Answers}
@@ -79,10 +75,7 @@ module _ {xs out out′ : List ℕ} {r : Answer} (a : Answers xs out r out′) w
   pub writes : {z : ℤ} → z ≡ numberOf r → Writes xs out z out′
   writes e = record { answer = e ∙ ap numberOf (a .answer); content = a .content }
 
--- ---- a routing, by the outcome of a job
-pub routing-is : {x : Routing} {o : Outcome} → Outcomes x o → {a : G.Answer} → o .answer ≡ a → answerOf a (treeOf (o .tree)) ≡ x
-routing-is {o = o} v e = sym (ap (λ (a : G.Answer). answerOf a (treeOf (o .tree))) e) ∙ v .is
-
+-- ---- by what a job gets
 module _ {x : Routing} {n : ℕ} (e : refused n ≡ x) {z : ℤ} (m : z ≡ minus n) where
   pub bytes-refused : (out : List ℕ) → BytesOf x out z out
   bytes-refused out = subst (λ (y : Routing). BytesOf y out z out) e (m, refl)

@@ -1,5 +1,6 @@
 // C calls of the router: a job's bytes to its text, its tree bytes or its figures. bindings/ has the C header and a Rust crate over these.
 // A slice is a pointer and a length to C. An answer is a number: what was written, or minus the number of a refusal.
+use job::ReadAnswer;
 use output::Answer;
 ghost use mathlib.Core.Path.{_≡_};
 ghost use Prim.Native.Nat.{_<_, _^_};
@@ -41,13 +42,13 @@ pub extern "C" fn ferruleslate_plan(job: &[u8], out: &mut [u8]) -> i64
 pub extern "C" fn ferruleslate_tree_bytes(job: &[u8], out: &mut [u8]) -> i64
     ensures { λ r. ⌜ BytesOf (routeOf (now (job .entry))) (now (out .entry)) r (now (out .exit)) ⌝ }
 {
-    let outcome = global_router::route(job);
-    let answer = outcome.answer;
+    let routed = job_tables::route_table(job);
+    let answer = routed.answer;
     match answer {
-        global_router::Answer::Refused(n) => refusal(n),
-        global_router::Answer::Done => {
-            let t = outcome.tree;
-            let written = t.to_bytes(out);
+        ReadAnswer::Refused(n) => refusal(n),
+        ReadAnswer::Accepted => {
+            let t = routed.table;
+            let written = reading::write_tree_bytes(t, out);
             number_of(written)
         }
     }
@@ -65,16 +66,17 @@ pub extern "C" fn ferruleslate_figures(
     ensures status { λ r. ⌜ r ≡ statusOf (routeOf (now (job .entry))) ⌝ }
     ensures figures { λ r. ⌜ figures (now (allowed .exit)) (now (farthest .exit)) (now (total .exit)) (now (worst .exit)) ≡ figuresAfter (routeOf (now (job .entry))) (figures (now (allowed .entry)) (now (farthest .entry)) (now (total .entry)) (now (worst .entry))) ⌝ }
 {
-    let outcome = global_router::route(job);
-    let answer = outcome.answer;
+    let routed = job_tables::route_table(job);
+    let answer = routed.answer;
     match answer {
-        global_router::Answer::Refused(n) => refusal(n),
-        global_router::Answer::Done => {
-            let t = outcome.tree;
-            let a = t.allowed();
-            let w = t.farthest();
-            let l = t.calculate_total_wirelength();
-            let v = t.calculate_worst_wirelength();
+        ReadAnswer::Refused(n) => refusal(n),
+        ReadAnswer::Accepted => {
+            let t = routed.table;
+            let f = planning::read_figures(t);
+            let a = f.allowed;
+            let w = f.farthest;
+            let l = f.total;
+            let v = f.worst;
             *allowed = a;
             *farthest = w;
             *total = l;

@@ -10,39 +10,27 @@ use Rattle.geometry.specs.declared.Point.{Point}
 use Rattle.geometry.specs.declared.Interval.{Interval}
 use Rattle.geometry.specs.declared.Rectangle.{Rectangle}
 use Rattle.geometry.specs.Geometry.{gap, dist, minZ, maxZ, hull, box, clip, distTo, inside, contains, covers}
-use Rattle.geometry.specs.Signed.{is-true, bias, In, le-yes, le-in, gap-bias, min-in, max-in, bias-min, bias-max, clip-in, bias-clip, and-left, and-right}
+use Rattle.geometry.specs.Signed.{is-true, bias, In, in-a, in-b, in-c, le-yes, le-in, gap-bias, min-in, max-in, bias-min, bias-max, clip-in, bias-clip, and-left, and-right}
 
 -- ---- order
 le-back : {K : ℕ} (x y : ℤ) → In K x → In K y → bias K x ≤ bias K y → leZ x y ≡ true
 le-back x y f g h = is-true (leZ x y) (le-in x y f g h .le)
 
 module _ (a b c : ℤ) where
-  abbrev K : ℕ
-  K = suc (mag a + mag b + mag c)
-
-  in-a : In K a
-  in-a = record { below = omega arith }
-
-  in-b : In K b
-  in-b = record { below = omega arith }
-
-  in-c : In K c
-  in-c = record { below = omega arith }
-
   le-trans : leZ a b ≡ true → leZ b c ≡ true → leZ a c ≡ true
-  le-trans e f = le-back a c in-a in-c (omega (arith, le-yes a b in-a in-b e, le-yes b c in-b in-c f))
+  le-trans e f = le-back a c (in-a a b c) (in-c a b c) (omega (arith, le-yes a b (in-a a b c) (in-b a b c) e, le-yes b c (in-b a b c) (in-c a b c) f))
 
   le-min-left : leZ a (minZ b c) ≡ true → leZ a b ≡ true
-  le-min-left e = le-back a b in-a in-b (omega (arith, le-yes a (minZ b c) in-a (min-in b c in-b in-c) e, bias-min b c in-b in-c))
+  le-min-left e = le-back a b (in-a a b c) (in-b a b c) (omega (arith, le-yes a (minZ b c) (in-a a b c) (min-in b c (in-b a b c) (in-c a b c)) e, bias-min b c (in-b a b c) (in-c a b c)))
 
   max-le-left : leZ (maxZ b c) a ≡ true → leZ b a ≡ true
-  max-le-left e = le-back b a in-b in-a (omega (arith, le-yes (maxZ b c) a (max-in b c in-b in-c) in-a e, bias-max b c in-b in-c))
+  max-le-left e = le-back b a (in-b a b c) (in-a a b c) (omega (arith, le-yes (maxZ b c) a (max-in b c (in-b a b c) (in-c a b c)) (in-a a b c) e, bias-max b c (in-b a b c) (in-c a b c)))
 
   le-min : leZ a b ≡ true → leZ a c ≡ true → leZ a (minZ b c) ≡ true
-  le-min e f = le-back a (minZ b c) in-a (min-in b c in-b in-c) (omega (arith, le-yes a b in-a in-b e, le-yes a c in-a in-c f, bias-min b c in-b in-c))
+  le-min e f = le-back a (minZ b c) (in-a a b c) (min-in b c (in-b a b c) (in-c a b c)) (omega (arith, le-yes a b (in-a a b c) (in-b a b c) e, le-yes a c (in-a a b c) (in-c a b c) f, bias-min b c (in-b a b c) (in-c a b c)))
 
   max-le : leZ b a ≡ true → leZ c a ≡ true → leZ (maxZ b c) a ≡ true
-  max-le e f = le-back (maxZ b c) a (max-in b c in-b in-c) in-a (omega (arith, le-yes b a in-b in-a e, le-yes c a in-c in-a f, bias-max b c in-b in-c))
+  max-le e f = le-back (maxZ b c) a (max-in b c (in-b a b c) (in-c a b c)) (in-a a b c) (omega (arith, le-yes b a (in-b a b c) (in-a a b c) e, le-yes c a (in-c a b c) (in-a a b c) f, bias-max b c (in-b a b c) (in-c a b c)))
 
 -- ---- intervals
 module _ (o : Interval) (a b : ℤ) where

@@ -1,29 +1,15 @@
 -- Laws of distance and of the nearest point, over all of ℤ: no range is asked. One coordinate goes to ℕ by a bias K above the numbers at hand.
 use mathlib.Core.Path.{_≡_, ap, sym}
 use mathlib.Core.Logic.{_⊎_, inl, inr, ⊎-elim}
-use Prim.Native.Nat.{ℕ, suc, _+_, _-_, _*_, _≤_, min, max}
+use Prim.Native.Nat.{ℕ, _+_, _-_, _*_, _≤_, min, max}
 use native.Mathlib.Decide.{decLe}
 use native.Mathlib.Omega.{arith}
 use lib.IntN.{ℤ, pos, natAbs, +ℤ-idr}
-use lib.Signed.{mag}
 use Rattle.geometry.specs.declared.Point.{Point}
 use Rattle.geometry.specs.Geometry.{gap, dist, hull, box, clip, nearest}
-use Rattle.geometry.specs.Signed.{bias, In, gap-bias, min-in, max-in, bias-min, bias-max, clip-in, bias-clip}
+use Rattle.geometry.specs.Signed.{bias, In, bound, in-a, in-b, in-c, gap-bias, min-in, max-in, bias-min, bias-max, clip-in, bias-clip}
 
 -- ---- one coordinate
-module _ (a b c : ℤ) where
-  abbrev K : ℕ
-  K = suc (mag a + mag b + mag c)
-
-  in-a : In K a
-  in-a = record { below = omega arith }
-
-  in-b : In K b
-  in-b = record { below = omega arith }
-
-  in-c : In K c
-  in-c = record { below = omega arith }
-
 pub gap-sym : (a b : ℤ) → gap a b ≡ gap b a
 gap-sym a b = omega (arith, gap-bias a b (in-a a b a) (in-b a b a), gap-bias b a (in-b a b a) (in-a a b a))
 
@@ -52,27 +38,27 @@ module _ (a b v : ℤ) where
   abbrev n : ℤ
   n = clip (hull a b) v
 
-  clip-K : In (K a b v) n
+  clip-K : In (bound a b v) n
   clip-K = clip-in (hull a b) v (min-in a b (in-a a b v) (in-b a b v)) (max-in a b (in-a a b v) (in-b a b v)) (in-c a b v)
 
-  clip-is : bias (K a b v) n ≡ max (min (bias (K a b v) a) (bias (K a b v) b)) (min (bias (K a b v) v) (max (bias (K a b v) a) (bias (K a b v) b)))
+  clip-is : bias (bound a b v) n ≡ max (min (bias (bound a b v) a) (bias (bound a b v) b)) (min (bias (bound a b v) v) (max (bias (bound a b v) a) (bias (bound a b v) b)))
   clip-is =
       omega (arith, bias-clip (hull a b) v (min-in a b (in-a a b v) (in-b a b v)) (max-in a b (in-a a b v) (in-b a b v)) (in-c a b v), bias-min a b (in-a a b v) (in-b a b v), bias-max a b (in-a a b v) (in-b a b v))
 
   pub clip-av : gap a n + gap n v ≡ gap a v
   clip-av =
       between _ _ _ (in-a a b v) clip-K (in-c a b v)
-      (⊎-elim (λ h. inl (omega (arith, clip-is))) (λ h. inr (omega (arith, clip-is))) (total (bias (K a b v) a) (bias (K a b v) v)))
+      (⊎-elim (λ h. inl (omega (arith, clip-is))) (λ h. inr (omega (arith, clip-is))) (total (bias (bound a b v) a) (bias (bound a b v) v)))
 
   pub clip-ab : gap a n + gap n b ≡ gap a b
   clip-ab =
       between _ _ _ (in-a a b v) clip-K (in-b a b v)
-      (⊎-elim (λ h. inl (omega (arith, clip-is))) (λ h. inr (omega (arith, clip-is))) (total (bias (K a b v) a) (bias (K a b v) b)))
+      (⊎-elim (λ h. inl (omega (arith, clip-is))) (λ h. inr (omega (arith, clip-is))) (total (bias (bound a b v) a) (bias (bound a b v) b)))
 
   pub clip-bv : gap b n + gap n v ≡ gap b v
   clip-bv =
       between _ _ _ (in-b a b v) clip-K (in-c a b v)
-      (⊎-elim (λ h. inl (omega (arith, clip-is))) (λ h. inr (omega (arith, clip-is))) (total (bias (K a b v) b) (bias (K a b v) v)))
+      (⊎-elim (λ h. inl (omega (arith, clip-is))) (λ h. inr (omega (arith, clip-is))) (total (bias (bound a b v) b) (bias (bound a b v) v)))
 
 -- ---- two coordinates
 pub dist-sym : (p q : Point) → dist p q ≡ dist q p
@@ -110,6 +96,10 @@ module _ (P C q : Point) where
   pub near-child : dist (nearest (box P C) q) q ≤ dist C q
   near-child = omega (arith, via-child)
 
+  -- a way from P to C by q is longer than the direct one by twice the distance from q to the box
+  pub twice-near : dist P q + dist C q ≡ dist P C + 2 * dist (nearest (box P C) q) q
+  twice-near = omega (arith, via-parent, via-child, on-edge, dist-sym C (nearest (box P C) q))
+
 -- ---- points within M of the origin, each way: their distances are small, and the nearest point stays there
 pub record Within (M : ℕ) (p : Point) : Type 0 where
   pub xcoord : natAbs (p .xcoord) ≤ M
@@ -136,7 +126,7 @@ clip-small : (M : ℕ) (a b v : ℤ) → natAbs a ≤ M → natAbs b ≤ M → n
 clip-small M a b v f g =
     ball-abs M _ (clip-K a b v) zero-in (omega (arith, clip-is a b v, ball M a (in-a a b v) zero-in f, ball M b (in-b a b v) zero-in g))
   where
-    zero-in : In (K a b v) (pos 0)
+    zero-in : In (bound a b v) (pos 0)
     zero-in = record { below = omega arith }
 
 pub dist-small : {M : ℕ} {p q : Point} → Within M p → Within M q → dist p q ≤ 4 * M

@@ -32,6 +32,20 @@ bias K (negsuc n) = K - suc n
 pub record In (K : ℕ) (z : ℤ) : Type 0 where
   pub below : mag z < K
 
+-- a bound above three numbers
+module _ (a b c : ℤ) where
+  abbrev pub bound : ℕ
+  bound = suc (mag a + mag b + mag c)
+
+  pub in-a : In bound a
+  in-a = record { below = omega arith }
+
+  pub in-b : In bound b
+  in-b = record { below = omega arith }
+
+  pub in-c : In bound c
+  in-c = record { below = omega arith }
+
 -- a test of order, each way
 pub lt-yes : {K : ℕ} (x y : ℤ) → In K x → In K y → ltZ x y ≡ true → bias K x < bias K y
 unfolding bias

@@ -9,18 +9,20 @@ use Rattle.geometry.specs.Geometry.{origin}
 use Rattle.geometry.specs.Laws.{Within}
 use Rattle.tree.specs.Limits.{reach}
 use Rattle.tree.specs.Tree.{Tree}
-use Rattle.job.specs.Job as J
-use Rattle.job.specs.Job.{Job, outside, readJob}
+use Rattle.job.specs.Job.{outside}
 use Rattle.nodes.specs.declared.Table.{Table}
 use Rattle.nodes.specs.Table.{tableTree}
 use Rattle.route.specs.Demand3.{Owed}
 use Rattle.route.proofs.Owed.{demand3}
-use Rattle.route.specs.Routing.{Routing, refused, routed, treeFor, routingOf, routeOf}
+use Rattle.route.specs.Routing.{Routing, refused, routed, routeOf}
+use Rattle.job_tables.specs.declared.RoutedTable.{RoutedTable}
+use Rattle.job_tables.specs.Tables as J
+use Rattle.job_tables.specs.Tables.{begun, Tables}
 use Rattle.global_router.specs.declared.Answer.{Answer}
 use Rattle.global_router.specs.declared.Answer.the-variants.{Refused, Done}
 use Rattle.global_router.specs.declared.Outcome.{Outcome}
 use Rattle.global_router.specs.Stored.{treeOf}
-use Rattle.global_router.specs.Calls.{Outcomes, answerOf, begun, newOf, Answered}
+use Rattle.global_router.specs.Calls.{Outcomes, answerOf, newOf, Answered}
 
 pub origin-near : (p : Point) → p ≡ origin → Within reach p
 origin-near p e = subst (Within reach) (sym e) (record { xcoord = omega arith; ycoord = omega arith })
@@ -61,15 +63,10 @@ module _ (p : Point) (b : Bool) (eb : b ≡ outside p) {r : Outcome} where
       is : newOf p ≡ routed (begun p)
       is = rw (sym eb ∙ t)
 
-module _ (bytes : List ℕ) {r : Outcome} where
-  pub route-refused : {n : ℕ} → readJob bytes ≡ J.refused n → Outcomes (refused n) r → Outcomes (routeOf bytes) r
-  unfolding routeOf
-  route-refused e o = as-answer (ap routingOf e) o
-
-  pub route-given : {j : Job} → readJob bytes ≡ J.accepted j → Outcomes (routed (treeFor j)) r → Outcomes (routeOf bytes) r
-  unfolding routeOf
-  route-given e o = as-answer (ap routingOf e) o
-
-  -- the answer, with what demand 3 owes of it
-  pub with-owed : Outcomes (routeOf bytes) r → Outcomes (routeOf bytes) r × Owed bytes (answerOf (r .answer) (treeOf (r .tree)))
-  with-owed o = (o, subst (Owed bytes) (sym (o .is)) (demand3 bytes))
+-- a job's tree, as it stands in columns, with what demand 3 owes of it
+pub routes : (bytes : List ℕ) (x : RoutedTable) (a : Answer) (r : Outcome) → Tables (routeOf bytes) x → ((t : Tree) → answerOf a t ≡ J.answerOf (x .answer) t)
+    → Answered a (x .table) r → Outcomes (routeOf bytes) r × Owed bytes (answerOf (r .answer) (treeOf (r .tree)))
+routes bytes x a r v e p = (record { is = is; beside = λ n f. p .tree ∙ v .beside n f; stored = p .stored }, subst (Owed bytes) (sym is) (demand3 bytes))
+  where
+    is : answerOf (r .answer) (treeOf (r .tree)) ≡ routeOf bytes
+    is = (λ i. answerOf (p .answer i) (p .tree i)) ∙ e (tableTree (x .table)) ∙ v .is

@@ -2,24 +2,18 @@
 use Prim.Native.Nat.{ℕ}
 use mathlib.Core.Path.{_≡_}
 use mathlib.Core.Bool.{cond}
-use lib.IntN.{pos}
 use Rattle.geometry.specs.declared.Point.{Point}
 use Rattle.geometry.specs.Geometry.{origin}
-use Rattle.tree.specs.Limits.{noLimit}
 use Rattle.tree.specs.Tree.{Tree}
-use Rattle.tree.specs.Route.{rooted}
 use Rattle.job.specs.Job.{outside}
 use Rattle.nodes.specs.declared.Table.{Table}
 use Rattle.nodes.specs.Table.{tableTree}
 use Rattle.route.specs.Routing.{Routing, refused, routed}
+use Rattle.job_tables.specs.Tables.{begun}
 use Rattle.global_router.specs.declared.Answer.{Answer}
 use Rattle.global_router.specs.declared.Answer.the-variants.{Refused, Done}
 use Rattle.global_router.specs.declared.Outcome.{Outcome}
 use Rattle.global_router.specs.Stored.{treeOf, Stored}
-
--- a tree that begins at a point: `worst_wirelength` is 2147483647, "for a tree made by hand" allowed is that, "with W 0"
-abbrev pub begun : Point → Tree
-begun s = rooted s (pos noLimit) 0 noLimit
 
 -- "A tree begins by hand from a source point, with 5 as its only refusal"
 unfoldable pub newOf : Point → Routing

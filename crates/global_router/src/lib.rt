@@ -5,7 +5,6 @@ use editing::ParentName;
 use geometry::Point;
 use geometry::Rectangle;
 use job::ReadAnswer;
-use job::RoutingJob;
 use joining::Counts;
 use nodes::Lookup;
 use nodes::Table;
@@ -18,17 +17,16 @@ use tree::TerminalNumber;
 ghost use mathlib.Core.Path.{_≡_};
 ghost use Prim.Native.Nat.{_≤_};
 ghost use Rattle.geometry.specs.Geometry.{origin};
-ghost use Rattle.tree.specs.Tree.{total};
+ghost use Rattle.tree.specs.Tree.{Tree, total};
 ghost use Rattle.tree.specs.Measures.{worst, steinerNodes, terminalNodes};
 ghost use Rattle.tree.specs.Memory.{nameIn};
-ghost use Rattle.job.specs.Reading.{unpacked};
 ghost use Rattle.output.specs.Answer.{Answers};
 ghost use Rattle.text.specs.Text.{textOf};
 ghost use Rattle.tree_bytes.specs.TreeBytes.{treeBytes};
 ghost use Rattle.nodes.specs.Nodes.{lookupOf};
 ghost use Rattle.nodes.specs.Table.{tableTree, Tabled};
-ghost use Rattle.job_tables.specs.Jobs.{Sound};
-ghost use Rattle.route.specs.Routing.{refused, routed, treeFor, routeOf};
+ghost use Rattle.job_tables.specs.Tables as J;
+ghost use Rattle.route.specs.Routing.{refused, routeOf};
 ghost use Rattle.route.specs.Demand3.{Owed};
 ghost use Rattle.tree.specs.Optimize.{optimize};
 ghost use Rattle.search.specs.Branch.{keepoutsOf};
@@ -447,12 +445,14 @@ impl GlobalRoutingTree {
     }
 }
 
-fn accepted(j: RoutingJob) -> Outcome
-    requires { ⌜ Sound j ⌝ }
-    ensures { λ r. ⌜ Outcomes (routed (treeFor (unpacked j))) r ⌝ }
+// A job's answer, as that of a call that gives a tree.
+fn answer_of(answer: ReadAnswer) -> Answer
+    ensures { λ r. ⌜ ((t : Tree) → answerOf r t ≡ J.answerOf answer t) ⌝ }
 {
-    let t = job_tables::planned(j);
-    answered(Answer::Done, t)
+    match answer {
+        ReadAnswer::Refused(n) => Answer::Refused(n),
+        ReadAnswer::Accepted => Answer::Done,
+    }
 }
 
 // The tree of a job. Refusals: 1 to 6, of the job's bytes.
@@ -460,13 +460,8 @@ pub fn route(bytes: &[u8]) -> Outcome
     ensures is { λ r. ⌜ Outcomes (routeOf (now (bytes .entry))) r ⌝ }
     ensures owed { λ r. ⌜ Owed (now (bytes .entry)) (answerOf (r .answer) (treeOf (r .tree))) ⌝ }
 {
-    let reading = job::read_job(bytes);
-    let answer = reading.answer;
-    match answer {
-        ReadAnswer::Refused(n) => refused(n),
-        ReadAnswer::Accepted => {
-            let j = reading.job;
-            accepted(j)
-        }
-    }
+    let routed = job_tables::route_table(bytes);
+    let answer = routed.answer;
+    let t = routed.table;
+    answered(answer_of(answer), t)
 }

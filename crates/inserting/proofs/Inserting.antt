@@ -19,7 +19,7 @@ use Rattle.tree.specs.Edits.{attached}
 use Rattle.search.specs.declared.Query.{Query}
 use Rattle.search.specs.declared.Join.{Join}
 use Rattle.search.specs.Branch.{keepoutsOf}
-use Rattle.search.specs.Find.{joinOf, Ready, Joins}
+use Rattle.search.specs.Find.{joinOf, Joins}
 use Rattle.search.specs.Boxes.{Covers}
 use Rattle.joining.specs.declared.Counts.{Counts}
 use Rattle.joining.specs.Store.{Store, columnsOf}
@@ -31,6 +31,7 @@ use Rattle.joining.proofs.Growing.{stores-terminal, sized-terminal}
 use Rattle.inserting.specs.declared.Way.{Way}
 use Rattle.inserting.specs.declared.Way.the-variants.{Simple, Search}
 use Rattle.boxes.specs.Covering.{JoinedUnder}
+use Rattle.nearest_branch.specs.Summed.{Summed}
 use Rattle.inserting.specs.Insert.{Points, NearColumns, ClosestOf, InsertedSimple, QueryOf, Asked, Covered}
 
 -- ---- at the closest node
@@ -89,16 +90,22 @@ most (T.onto p) = omega arith
 most (T.split p d) = omega arith
 
 module _ {k : Counts} {c : Store} (a : Query) (lows highs : List ℤ) (v : Standing (Asked Search a lows highs) 2 (a .point) k c) (w : ℕ) (ew : w ≡ k .nodes) where
-  pub ready : Ready w a (c .rows .xs) (c .rows .ys) (c .rows .path) (c .links .last) (c .links .prev) lows highs
-  ready =
+  pub summed : Summed w a (c .rows .xs) (c .rows .ys) (c .rows .path) (c .rows .parent) (c .links .last) (c .links .prev) lows highs
+  summed =
       record {
-        nodes = v .tree .nodes;
-        size = v .stores .size ∙ sym ew;
-        small = omega (arith, v .small);
-        kept = kept (v .tree) (v .formed) (few v) _ (columnsOf c) (sized-columns (v .sized)) (v .stores .keeps) (omega (arith, v .stores .size, v .room));
-        tree = walks (v .tree) (v .formed) (few v);
-        covers = v .when .1;
-        within = v .within;
+        ready = record {
+          nodes = v .tree .nodes;
+          size = v .stores .size ∙ sym ew;
+          small = omega (arith, v .small);
+          kept = kept (v .tree) (v .formed) (few v) _ (columnsOf c) (sized-columns (v .sized)) (v .stores .keeps) (omega (arith, v .stores .size, v .room));
+          tree = walks (v .tree) (v .formed) (few v);
+          covers = v .when .covers;
+          within = v .within;
+        };
+        linked = v .formed .linked;
+        in-parent = omega (arith, v .room, v .sized .rows .parent);
+        parents = λ i h. ap (λ (n : Node). n .parent) (v .stores .keeps .rows i h);
+        sums = v .when .sums;
       }
 
   module _ (ks : List ℤ) (j : Join) (joins : Joins w a (c .rows .xs) (c .rows .ys) (c .rows .path) (c .links .last) (c .links .prev) ks j) where
@@ -112,7 +119,7 @@ module _ {k : Counts} {c : Store} (a : Query) (lows highs : List ℤ) (v : Stand
     fits t f query s = subst (Fits (t .nodes)) (found-is t f query s) (find-fits (t .nodes) (f .linked) (T.blocked (keepoutsOf ks)) (t .limit) (t .allowed) (a .point))
 
     pub may-join : Standing (At j) (newNodes (joinOf j)) (a .point) k c
-    may-join = weaker v (λ h. fits (v .tree) (v .formed) (h .0) (v .stores)) (most (joinOf j))
+    may-join = weaker v (λ h. fits (v .tree) (v .formed) (h .query) (v .stores)) (most (joinOf j))
 
     pub did-search : (way : Way) → way ≡ Search → (r : Counts) (c′ : Store) (lows′ highs′ : List ℤ) → JoinedUnder j (a .point) k c lows highs r c′ lows′ highs′
         → Covered way ks a k c lows highs r c′ lows′ highs′

@@ -13,6 +13,8 @@ use Rattle.tree.specs.Limits.{noNode, reach}
 use Rattle.tree.specs.Tree.{Tree, nodeAt}
 use Rattle.tree.specs.Route.{insert, insertSimple, inserts, rooted}
 use Rattle.tree.specs.WellFormed.{WellFormed, Counted}
+use Rattle.tree.proofs.Routing.{routed-start}
+use Rattle.tree.proofs.Fitting.{sums-inserts}
 use Rattle.tree.proofs.Forming.{formed-insert, formed-simple, formed-start, counted-insert, counted-simple, counted-start}
 use Rattle.search.specs.declared.Query.{Query}
 use Rattle.search.specs.Branch.{keepoutsOf}
@@ -28,7 +30,7 @@ use Rattle.joining.proofs.Steps.{row-same, sized-row}
 use Rattle.joining.proofs.Reading.{sized-columns, nodes-are}
 use Rattle.inserting.specs.declared.Way.{Way}
 use Rattle.inserting.specs.declared.Way.the-variants.{Simple, Search}
-use Rattle.inserting.specs.Insert.{Inserted, stepOf, CoveredFor, Asked, Covered}
+use Rattle.inserting.specs.Insert.{Inserted, stepOf, CoveredFor, SummedFor, Asked, Covered}
 use Rattle.inserting.specs.Route.{sourceRow, firsts, treeOf, treeIn, queryAt, Routable, Holds, Routed}
 
 -- ---- what holds before the loop, and at its head
@@ -80,6 +82,14 @@ unfolding treeOf upTo
 tree-next way ks px py a w i =
     ap (λ (n : ℕ). inserts (stepOf way ks) (firsts px py n) (rooted (a .point) (a .allowed) w (a .limit))) (add-one i)
     ∙ inserts-snoc (stepOf way ks) (firsts px py i) (pointAt px py i) (rooted (a .point) (a .allowed) w (a .limit))
+
+-- path lengths of the search's tree are sums
+sums-tree : (way : Way) (ks px py : List ℤ) (a : Query) (w i : ℕ) → SummedFor way (treeOf way ks px py a w i)
+unfolding treeOf
+sums-tree Simple ks px py a w i = tt
+sums-tree Search ks px py a w i =
+    let r = routed-start (a .point) (a .allowed) w (a .limit) in
+    sums-inserts (keepoutsOf ks) (firsts px py i) (rooted (a .point) (a .allowed) w (a .limit)) (r .linked) (r .measured .paths)
 
 -- ---- the source alone
 module _ (s : Point) (allowed : ℤ) (w limit : ℕ) (m : ℕ) (c c′ : Store) (z : SizedStore m c) (room : 0 < m) (b : Begun c s c′) where
@@ -198,7 +208,7 @@ module _ (way : Way) (ks px py : List ℤ) (a : Query) (c₀ : Store) (v : Routa
             tree = treeOf way ks px py a 0 i;
             formed = h .formed;
             stores = h .stores;
-            when = (record { limit = h .query .limit; allowed = h .query .allowed }, u .covers 0);
+            when = record { query = record { limit = h .query .limit; allowed = h .query .allowed }; covers = u .covers 0; sums = sums-tree way ks px py a 0 i };
             sized = subst (λ (n : ℕ). SizedStore n c) (sym (u .sized .rows .xs)) (u .sized);
             room = omega (arith, nodes-low, wide-enough, u .sized .rows .xs);
             small = omega (arith, nodes-low, v .few);

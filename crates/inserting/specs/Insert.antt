@@ -10,6 +10,7 @@ use Rattle.geometry.specs.Laws.{Within}
 use Rattle.tree.specs.Limits.{reach, mostNodes}
 use Rattle.tree.specs.Tree.{Node, Tree, nodeAt}
 use Rattle.tree.specs.Route.{closest, insert, insertSimple}
+use Rattle.tree.specs.Shape.{PathSums}
 use Rattle.tree.specs.WellFormed.{WellFormed}
 use Rattle.search.specs.declared.Query.{Query}
 use Rattle.search.specs.Branch.{keepoutsOf}
@@ -67,15 +68,22 @@ stepOf Search ks = insert (keepoutsOf ks)
 abbrev pub Inserted : Way → List ℤ → Query → Counts → Store → Counts → Store → Type 0
 Inserted way ks a = Grows (QueryOf a) (λ t. stepOf way ks t (a .point))
 
--- ---- the boxes
--- the search is to find boxes that cover the tree
+-- ---- what the search asks beside the query; mode 0 asks nothing
+-- boxes that cover the tree, which an insertion changes with it
 abbrev pub CoveredFor : Way → List ℤ → List ℤ → Tree → Type 0
 CoveredFor Simple lows highs t = Unit {0}
 CoveredFor Search lows highs t = Covers (t .nodes) lows highs
 
+-- path lengths that are sums: a law of the trees themselves
+abbrev pub SummedFor : Way → Tree → Type 0
+SummedFor Simple t = Unit {0}
+SummedFor Search t = PathSums (t .nodes)
+
 -- what a way asks of a tree
-abbrev pub Asked : Way → Query → List ℤ → List ℤ → Tree → Type 0
-Asked way a lows highs t = QueryOf a t × CoveredFor way lows highs t
+pub record Asked (way : Way) (a : Query) (lows highs : List ℤ) (t : Tree) : Type 0 where
+  pub query : QueryOf a t
+  pub covers : CoveredFor way lows highs t
+  pub sums : SummedFor way t
 
 -- the query's point has been inserted, and the boxes cover it
 pub record Covered (way : Way) (ks : List ℤ) (a : Query) (k : Counts) (c : Store) (lows highs : List ℤ) (k′ : Counts) (c′ : Store) (lows′ highs′ : List ℤ) : Type 0 where

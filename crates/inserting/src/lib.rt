@@ -2,6 +2,7 @@
 use geometry::Point;
 use joining::Counts;
 use joining::Row;
+use nearest_branch::find_join;
 use search::Query;
 use tree::NodeIndex;
 use tree::SteinerNumber;
@@ -122,7 +123,7 @@ pub fn insert_terminal(
         Way::Simple => insert_simple(xs, ys, path, parent, kind, number, last, prev, next, k, q),
         Way::Search => {
             let n = search::wide(k.nodes);
-            let j = search::find_insertion_point(n, a, xs, ys, path, last, prev, lows, highs, ks);
+            let j = find_join(n, a, xs, ys, path, parent, last, prev, lows, highs, ks);
             boxes::join(
                 xs,
                 ys,

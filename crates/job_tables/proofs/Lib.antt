@@ -1,3 +1,4 @@
 pub mod Columns
 pub mod Plans
 pub mod Lending
+pub mod Answers

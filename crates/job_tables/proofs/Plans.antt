@@ -4,10 +4,10 @@ use mathlib.Core.Path.{_≡_, refl, _∙_}
 use mathlib.Core.List.{List, []}
 use native.Mathlib.Omega.{arith}
 use lib.ListN.{length}
-use lib.IntN.{ℤ, pos}
+use lib.IntN.{ℤ}
 use Rattle.geometry.specs.declared.Point.{Point}
-use Rattle.tree.specs.Limits.{mostTerminals, noLimit}
-use Rattle.tree.specs.Route.{inserts, rooted}
+use Rattle.tree.specs.Limits.{mostTerminals}
+use Rattle.tree.specs.Route.{inserts}
 use Rattle.job.specs.declared.Mode.{Mode}
 use Rattle.job.specs.declared.Mode.the-variants.{Simple}
 use Rattle.sorting.specs.Points.{seg}
@@ -16,6 +16,7 @@ use Rattle.joining.proofs.Reading.{length-upto}
 use Rattle.nodes.specs.declared.Table.{Table}
 use Rattle.nodes.specs.Table.{tableColumns, tableTree, Tabled}
 use Rattle.route.specs.Plan.{Planned}
+use Rattle.job_tables.specs.Tables.{begun}
 
 module _ {ks px py : List ℤ} {s : Point} {mode : Mode} (t : Table) (p : Planned ks px py s mode t) where
   pub plan-tabled : length px ≤ mostTerminals → Tabled t
@@ -33,6 +34,6 @@ module _ {ks px py : List ℤ} {s : Point} {mode : Mode} (t : Table) (p : Planne
       }
 
 -- ---- no terminals
-pub alone-is : {ks : List ℤ} {s : Point} (t : Table) → Planned ks [] [] s Simple t → tableTree t ≡ rooted s (pos noLimit) 0 noLimit
+pub alone-is : {ks : List ℤ} {s : Point} (t : Table) → Planned ks [] [] s Simple t → tableTree t ≡ begun s
 unfolding seg inserts
 alone-is t p = p .tree ∙ refl

@@ -78,6 +78,10 @@ nameFrom (suc (suc n)) k = terminal k
 unfoldable pub parentFrom : ℕ → Parent
 parentFrom p = cond (eqb p noNode) none (at p)
 
+-- the parents of nodes stand in a column
+abbrev pub ParentsIn : List Node → List ℕ → Type 0
+ParentsIn ns parent = (i : ℕ) → i < length ns → nodeAt ns i .parent ≡ parentFrom (getD parent i 0)
+
 abbrev pub nodeFrom : Row → List ℕ → Node
 nodeFrom r cs =
     record { name = nameFrom (r .kind) (r .number); parent = parentFrom (r .parent .0); point = r .point; children = cs; path = r .path; capacitance = zeroFigure; delay = zeroFigure }

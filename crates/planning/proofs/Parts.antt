@@ -1,5 +1,5 @@
 -- A buffer's first bytes after what was put there, or after an answer that wrote.
--- And the output that the parts make: a tree's, by its text in a buffer; and a job's, by the outcome of routing it.
+-- And the output that the parts make: a tree's, by its text in a buffer; and a job's, by what its bytes get.
 use mathlib.Core.Path.{_≡_, refl, sym, ap, _∙_}
 use mathlib.Core.Bool.{Bool, true, false, cond}
 use mathlib.Core.List.{List, _++_}
@@ -14,12 +14,12 @@ use Rattle.tree.specs.Tree.{Tree, total}
 use Rattle.tree.specs.Measures.{worst}
 use Rattle.text.specs.Text.{textOf}
 use Rattle.route.specs.Routing.{routeOf}
-use Rattle.global_router.specs.declared.Answer as G
-use Rattle.global_router.specs.declared.Answer.the-variants.{Done}
-use Rattle.global_router.specs.declared.Answer.the-variants as given
-use Rattle.global_router.specs.declared.Outcome.{Outcome}
-use Rattle.global_router.specs.Stored.{treeOf}
-use Rattle.global_router.specs.Calls.{Outcomes, answerOf}
+use Rattle.job.specs.declared.ReadAnswer.the-variants.{Accepted}
+use Rattle.job.specs.declared.ReadAnswer.the-variants as given
+use Rattle.nodes.specs.Table.{tableTree}
+use Rattle.job_tables.specs.declared.RoutedTable.{RoutedTable}
+use Rattle.job_tables.specs.Tables.{Tables}
+use Rattle.job_tables.proofs.Answers.{routing-is}
 use Rattle.output.specs.Answer.{noRoom, contentOf, Answers}
 use Rattle.output.specs.Answer as O
 use Rattle.output.proofs.Bytes.{put-first}
@@ -80,15 +80,12 @@ module _ (t : Tree) {buffer buffer′ : List ℕ} {m : ℕ} (size : mostOutput �
       let h : leb (length (textOf (t .nodes))) mostText ≡ false = lt-leb _ _ k in
       rw h
 
--- ---- a job's output, by the outcome of routing it
-module _ (job : List ℕ) {o : Outcome} (v : Outcomes (routeOf job) o) where
-  routed-as : {a : G.Answer} → o .answer ≡ a → answerOf a (treeOf (o .tree)) ≡ routeOf job
-  routed-as e = sym (ap (λ (a : G.Answer). answerOf a (treeOf (o .tree))) e) ∙ v .is
-
-  pub of-refusal : {n : ℕ} → o .answer ≡ given.Refused n → refusalLine n ≡ outputOf job
+-- ---- a job's output, by what its bytes get
+module _ (job : List ℕ) {r : RoutedTable} (v : Tables (routeOf job) r) where
+  pub of-refusal : {n : ℕ} → r .answer ≡ given.Refused n → refusalLine n ≡ outputOf job
   unfolding outputOf
-  of-refusal e = ap outputFor (routed-as e)
+  of-refusal e = ap outputFor (routing-is v e)
 
-  pub of-tree : o .answer ≡ Done → treeOutput (treeOf (o .tree)) ≡ outputOf job
+  pub of-tree : r .answer ≡ Accepted → treeOutput (tableTree (r .table)) ≡ outputOf job
   unfolding outputOf
-  of-tree e = ap outputFor (routed-as e)
+  of-tree e = ap outputFor (routing-is v e)

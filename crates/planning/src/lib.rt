@@ -1,5 +1,6 @@
 // What the program writes for a job: the tree's text and its figures, or a refusal.
-use global_router::GlobalRoutingTree;
+use job::ReadAnswer;
+use nodes::Table;
 use output::Answer;
 ghost use mathlib.Core.Path.{_≡_};
 ghost use mathlib.Core.List.{_++_};
@@ -8,7 +9,7 @@ ghost use Rattle.wire.specs.Puts.{Puts};
 ghost use Rattle.output.specs.Answer.{Answers};
 ghost use Rattle.tree.specs.Tree.{total};
 ghost use Rattle.tree.specs.Measures.{worst};
-ghost use Rattle.global_router.specs.Stored.{treeOf, Stored};
+ghost use Rattle.nodes.specs.Table.{tableTree, Tabled};
 ghost use Rattle.planning.specs.Output.{mostText, mostOutput, refusalLine, figuresLine, treeOutput, outputOf};
 
 // "the text (buffer 65,536 bytes)"
@@ -68,35 +69,32 @@ fn write_refusal(n: u8, out: &mut [u8]) -> Answer
     Answer::Wrote(put_refusal(out, 0, n))
 }
 
-// ---- a tree, and a job
+// ---- a tree in columns, and a job
 
-pub fn read_figures(t: GlobalRoutingTree) -> Figures
-    requires { ⌜ Stored t ⌝ }
-    ensures allowed { λ r. ⌜ r .allowed ≡ treeOf t .allowed ⌝ }
-    ensures farthest { λ r. ⌜ r .farthest ≡ treeOf t .farthest ⌝ }
-    ensures total { λ r. ⌜ r .total ≡ total (treeOf t .nodes) ⌝ }
-    ensures worst { λ r. ⌜ r .worst ≡ worst (treeOf t .nodes) ⌝ }
+pub fn read_figures(t: Table) -> Figures
+    requires { ⌜ Tabled t ⌝ }
+    ensures allowed { λ r. ⌜ r .allowed ≡ tableTree t .allowed ⌝ }
+    ensures farthest { λ r. ⌜ r .farthest ≡ tableTree t .farthest ⌝ }
+    ensures total { λ r. ⌜ r .total ≡ total (tableTree t .nodes) ⌝ }
+    ensures worst { λ r. ⌜ r .worst ≡ worst (tableTree t .nodes) ⌝ }
 {
-    let allowed = t.allowed();
-    let farthest = t.farthest();
-    let total = t.calculate_total_wirelength();
-    let worst = t.calculate_worst_wirelength();
+    let total = reading::total_wirelength(t);
+    let worst = reading::worst_wirelength(t);
     Figures {
-        allowed: allowed,
-        farthest: farthest,
+        allowed: t.allowed,
+        farthest: t.farthest,
         total: total,
         worst: worst,
     }
 }
 
-fn write_tree(t: GlobalRoutingTree, out: &mut [u8]) -> Answer
-    requires { ⌜ Stored t ⌝ }
-    ensures { λ r. ⌜ Answers (treeOutput (treeOf t)) (now (out .entry)) r (now (out .exit)) ⌝ }
+fn write_tree(t: Table, out: &mut [u8]) -> Answer
+    requires { ⌜ Tabled t ⌝ }
+    ensures { λ r. ⌜ Answers (treeOutput (tableTree t)) (now (out .entry)) r (now (out .exit)) ⌝ }
 {
     let f = read_figures(t);
-    let columns = global_router::to_table(t);
     let mut text = output_buffer();
-    let m = reading::put_text(columns, &mut text, 0);
+    let m = reading::put_text(t, &mut text, 0);
     if MOST_TEXT < m {
         return write_refusal(output::NO_ROOM, out);
     }
@@ -104,16 +102,16 @@ fn write_tree(t: GlobalRoutingTree, out: &mut [u8]) -> Answer
     output::write_bytes(&text[..n], out)
 }
 
-// What the program writes for a job, whole or not at all. Refusal: 11.
+// What the program writes for a job, whole or not at all. Refusal: 11. The tree stays in columns: nobody is handed it.
 pub fn plan(job: &[u8], out: &mut [u8]) -> Answer
     ensures { λ r. ⌜ Answers (outputOf (now (job .entry))) (now (out .entry)) r (now (out .exit)) ⌝ }
 {
-    let outcome = global_router::route(job);
-    let answer = outcome.answer;
+    let routed = job_tables::route_table(job);
+    let answer = routed.answer;
     match answer {
-        global_router::Answer::Refused(n) => write_refusal(n, out),
-        global_router::Answer::Done => {
-            let t = outcome.tree;
+        ReadAnswer::Refused(n) => write_refusal(n, out),
+        ReadAnswer::Accepted => {
+            let t = routed.table;
             write_tree(t, out)
         }
     }

@@ -11,6 +11,7 @@ use global_router::GlobalRoutingTree;
 use global_router::Outcome;
 use nodes::Lookup;
 use output::Answer;
+use planning::Figures;
 use rectangles::Rectangles;
 use tree::NodeIndex;
 use tree::NodeName;
@@ -386,7 +387,12 @@ fn tree_bytes(t: GlobalRoutingTree, record: &[u8], buffer: &mut [u8], out: &mut 
 fn figures(t: GlobalRoutingTree, out: &mut [u8]) -> usize
     requires { ⌜ Stored t ⌝ }
 {
-    let f = planning::read_figures(t);
+    let f = Figures {
+        allowed: t.allowed(),
+        farthest: t.farthest(),
+        total: t.calculate_total_wirelength(),
+        worst: t.calculate_worst_wirelength(),
+    };
     planning::put_figures(out, 0, f)
 }
 

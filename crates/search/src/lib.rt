@@ -115,7 +115,7 @@ fn takes(w: bool, d: u32, l: u32, limit: u32, b: Best) -> bool
 }
 
 // Where the point joins on the branch whose nearest point is n.
-fn join_at(n: Point, at: NodeView, to: NodeView) -> Join
+pub fn join_at(n: Point, at: NodeView, to: NodeView) -> Join
     ensures { λ r. ⌜ r ≡ joinAt n at to ⌝ }
 {
     let p = at.point;

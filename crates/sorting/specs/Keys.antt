@@ -7,6 +7,7 @@ use lib.ListN.{length, getD}
 use lib.Dec.{ltb}
 use lib.IntN.{ℤ, pos, negsuc, _-ℤ_}
 use Rattle.tree.specs.Limits.{reach}
+use Rattle.tree.specs.Shape.{count}
 use Rattle.geometry.specs.declared.Point.{Point}
 use Rattle.geometry.specs.Geometry.{gap, dist}
 use Rattle.sorting.specs.Points.{pt}
@@ -48,3 +49,15 @@ placeKey v (k ∷ ks) = cond (ltb k v) (k ∷ placeKey v ks) (v ∷ k ∷ ks)
 
 abbrev pub sortKeys : List ℕ → List ℕ
 sortKeys = foldr placeKey []
+
+-- ---- keys that change places
+-- what stands where no key has gone: 2 ^ 64 - 1
+abbrev pub free : ℕ
+free = 18446744073709551615
+
+pub record AllFree (places : List ℕ) : Type 0 where
+  pub each : (k : ℕ) → k < length places → getD places k 0 ≡ free
+
+-- the same keys, each as often
+abbrev pub SameKeys : List ℕ → List ℕ → Type 0
+SameKeys ks ls = (x : ℕ) → count x ks ≡ count x ls

@@ -1,7 +1,9 @@
 // Terminals in two columns, sorted by distance from the source, then x, then y.
 // Within reach the three fit one number of 64 bits, so that a point and its distance move in one piece: these keys are sorted, and read back.
+// The sort is one by insertion, of keys that first went nearly to their places.
 use geometry::Point;
 ghost use mathlib.Core.Path.{_≡_};
+ghost use mathlib.Core.Bool.{true};
 ghost use mathlib.Core.List.{_++_};
 ghost use Prim.Native.Nat.{ℕ, _+_, _<_, _≤_};
 ghost use lib.IntN.{pos, _-ℤ_};
@@ -11,7 +13,7 @@ ghost use Rattle.geometry.specs.Geometry.{gap};
 ghost use Rattle.geometry.specs.Laws.{Within};
 ghost use Rattle.tree.specs.Limits.{reach, mostTerminals};
 ghost use Rattle.sorting.specs.Points.{pt, Even, Sorted};
-ghost use Rattle.sorting.specs.Keys.{least, part, keyOf, pointOf, Keyed, Read, passesKey, placeKey, sortKeys};
+ghost use Rattle.sorting.specs.Keys.{least, part, keyOf, pointOf, Keyed, Read, passesKey, placeKey, sortKeys, AllFree, SameKeys};
 
 // No coordinate is less.
 const LEAST: i32 = -1000000;
@@ -21,6 +23,12 @@ const PART: u64 = 2097152;
 
 // And both coordinates 42, below the distance.
 const PARTS: u64 = 4398046511104;
+
+// An index has 7 bits of a number in the order.
+const INDEXES: u32 = 128;
+
+// Stands where no key has gone. Any number would do; this one is no key within reach.
+const FREE: u64 = 18446744073709551615;
 
 // ---- points
 
@@ -172,13 +180,83 @@ fn sort_keys(keys: &mut [u64])
     }
 }
 
-// By keys, one for each point.
-fn sort_by(px: &mut [i32], py: &mut [i32], s: Point, keys: &mut [u64])
+// ---- nearly in order
+// The insertion sort moves a key past every lesser one after it. Few are once each key went to the place of its rank by distance, so that the sort
+// takes hardly more turns than there are keys. A wrong rank costs turns, never the result: the places hold each key as often.
+
+// For each key its distance, then its index: a guess at the order, all numbers different, and of 32 bits, of which a wide loop compares many at once.
+fn put_order(keys: &[u64], order: &mut [u32])
+    requires { ⌜ (length (now order) ≡ length (now keys)) × (length (now keys) ≤ mostTerminals) ⌝ }
+{
+    let mut i: usize = 0;
+    while i < keys.len() {
+        order[i] = ((keys[i] / PARTS) as u32) * INDEXES + (i as u32);
+        i = i + 1;
+    }
+}
+
+// 1 if a is less than b, and 0 if not.
+fn below(a: u32, b: u32) -> u32
+    ensures { λ r. ⌜ r ≤ 1 ⌝ }
+{
+    if a < b { 1 } else { 0 }
+}
+
+// How many are less than v. No branch depends on a key, so LLVM makes the loop wide.
+fn rank(order: &[u32], v: u32) -> u32
+    requires { ⌜ length (now order) ≤ mostTerminals ⌝ }
+{
+    let mut n: u32 = 0;
+    let mut i: usize = 0;
+    while i < order.len() {
+        n = n + below(order[i], v);
+        i = i + 1;
+    }
+    n
+}
+
+// Each key goes to the place of its rank. False where that place is not free, or is none: then nothing is said of `places`.
+fn scatter(keys: &[u64], order: &[u32], places: &mut [u64]) -> bool
+    requires { ⌜ (length (now order) ≡ length (now keys)) × (length (now keys) ≤ mostTerminals) ⌝ }
+    requires { ⌜ (length (now places) ≡ length (now keys)) × AllFree (now places) ⌝ }
+    ensures { λ r. ⌜ (r ≡ true → SameKeys (now (places .exit)) (now (keys .entry))) ⌝ }
+{
+    let mut i: usize = 0;
+    while i < keys.len() {
+        let r = rank(order, order[i]) as usize;
+        if places.len() <= r {
+            return false;
+        }
+        if places[r] != FREE {
+            return false;
+        }
+        places[r] = keys[i];
+        i = i + 1;
+    }
+    true
+}
+
+// By keys, one for each point: as they stand by rank, or where two ranks are the same, as they came.
+fn sort_by(
+    px: &mut [i32],
+    py: &mut [i32],
+    s: Point,
+    keys: &mut [u64],
+    order: &mut [u32],
+    places: &mut [u64],
+)
     requires { ⌜ Even (now px) (now py) × Within reach s ⌝ }
-    requires { ⌜ length (now keys) ≡ length (now px) ⌝ }
+    requires { ⌜ (length (now px) ≤ mostTerminals) × (length (now keys) ≡ length (now px)) ⌝ }
+    requires { ⌜ (length (now order) ≡ length (now px)) × ((length (now places) ≡ length (now px)) × AllFree (now places)) ⌝ }
     ensures { λ r. ⌜ Sorted (now (px .entry)) (now (py .entry)) s (now (px .exit)) (now (py .exit)) ⌝ }
 {
     put_keys(px, py, s, keys);
+    put_order(keys, order);
+    if scatter(keys, order, places) {
+        sort_keys(places);
+        read_keys(places, px, py);
+        return;
+    }
     sort_keys(keys);
     read_keys(keys, px, py);
 }
@@ -189,6 +267,18 @@ fn key_buffer() -> [u64; tree::MOST_TERMINALS]
     [0; tree::MOST_TERMINALS]
 }
 
+fn order_buffer() -> [u32; tree::MOST_TERMINALS]
+    ensures { λ r. ⌜ mostTerminals ≡ length r ⌝ }
+{
+    [0; tree::MOST_TERMINALS]
+}
+
+fn free_places() -> [u64; tree::MOST_TERMINALS]
+    ensures { λ r. ⌜ (mostTerminals ≡ length r) × AllFree r ⌝ }
+{
+    [FREE; tree::MOST_TERMINALS]
+}
+
 pub fn sort(px: &mut [i32], py: &mut [i32], s: Point)
     requires { ⌜ Even (now px) (now py) ⌝ }
     requires { ⌜ Within reach s × (length (now px) ≤ mostTerminals) ⌝ }
@@ -196,5 +286,7 @@ pub fn sort(px: &mut [i32], py: &mut [i32], s: Point)
 {
     let n = px.len();
     let mut keys = key_buffer();
-    sort_by(px, py, s, &mut keys[..n]);
+    let mut order = order_buffer();
+    let mut places = free_places();
+    sort_by(px, py, s, &mut keys[..n], &mut order[..n], &mut places[..n]);
 }

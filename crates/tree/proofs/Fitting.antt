@@ -1,4 +1,5 @@
--- The search finds a place in any tree whose links agree, whatever path lengths its nodes carry: so inserting keeps links and names after hand edits too.
+-- The search finds a place in any tree whose links agree, whatever path lengths its nodes carry: so inserting keeps links and names after hand edits too. Path lengths
+-- that are sums stay so, whatever the limit.
 use mathlib.Core.Path.{_≡_}
 use mathlib.Core.Bool.{Bool, true, false, _||_, cond}
 use mathlib.Core.List.{List, [], _∷_}
@@ -11,12 +12,12 @@ use Rattle.geometry.specs.declared.Rectangle.{Rectangle}
 use Rattle.geometry.specs.Geometry.{dist, same, box, nearest}
 use Rattle.tree.specs.Tree.{Node, Tree, Parent, at, nodeAt}
 use Rattle.tree.specs.Search.{Join, onto, split, Best, Walk, branch, takes, joinAt, judge, examine, branches, walk, fresh, find, blocked}
-use Rattle.tree.specs.Route.{insert}
-use Rattle.tree.specs.Shape.{Linked}
+use Rattle.tree.specs.Route.{insert, inserts}
+use Rattle.tree.specs.Shape.{Linked, PathSums}
 use Rattle.tree.specs.WellFormed.{Fits}
 use Rattle.tree.proofs.Linking.{child-in, parent-in}
 use Rattle.tree.proofs.Searching.{Children, own, head-child, tail-child}
-use Rattle.tree.proofs.Routing.{Planned, linked-joined, named-joined}
+use Rattle.tree.proofs.Routing.{Planned, linked-joined, sums-joined, named-joined}
 
 module _ (ns : List Node) (g : Linked ns) (shut : Point → Point → Point → Point → Bool) (limit : ℕ) (allowed : ℤ) (q : Point) where
   fits-at : (p c : ℕ) (n : Point) → nodeAt ns c .parent ≡ at p → Fits ns (joinAt p (nodeAt ns p) c (nodeAt ns c) n)
@@ -69,3 +70,11 @@ planned-insert s ks t q r =
       linked = linked-joined s (t .nodes) _ _ q (r .linked) _ v;
       named = named-joined s (t .nodes) _ _ q (r .linked) _ v (r .named);
     }
+
+-- terminals that are inserted leave path lengths sums
+pub sums-inserts : (ks : List Rectangle) (qs : List Point) (t : Tree) → Linked (t .nodes) → PathSums (t .nodes) → PathSums (inserts (insert ks) qs t .nodes)
+unfolding inserts insert
+sums-inserts ks [] t g m = m
+sums-inserts ks (q ∷ qs) t g m =
+    let v = find-fits (t .nodes) g (blocked ks) (t .limit) (t .allowed) q in
+    sums-inserts ks qs (insert ks t q) (linked-joined q (t .nodes) _ _ q g _ v) (sums-joined q (t .nodes) _ _ q g _ v m)

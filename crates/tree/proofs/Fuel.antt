@@ -1,4 +1,5 @@
--- The walk pops each node at most once, so as many turns as there are nodes empty its stack.
+-- The walk pops each node at most once, so as many turns as there are nodes empty its stack; with nothing in the way it pops every node. What each pop keeps
+-- therefore holds at the end.
 use mathlib.Core.Path.{_≡_, refl, sym, ap, ap₂, subst, _∙_}
 use mathlib.Core.Logic.{_≢_, _⊎_, inl, inr, ⊎-elim}
 use mathlib.Core.Bool.{Bool, true, false, cond}
@@ -15,7 +16,7 @@ use Rattle.tree.specs.Tree.{one}
 use Rattle.tree.specs.Tree.{Node, Parent, none, at, nodeAt, sumTo}
 use Rattle.tree.specs.Search.{Best, Walk, judge, examine, branches, walk, fresh}
 use Rattle.tree.specs.Shape.{Linked, count, isAt}
-use Rattle.tree.proofs.Linking.{one-eq, one-ne, child-in, parent-in, not-own, none-at, out-parent, count-append}
+use Rattle.tree.proofs.Linking.{one-eq, one-ne, child-in, counted, parent-in, not-own, none-at, out-parent, count-append}
 use Rattle.tree.proofs.Measuring.{at-inj}
 
 one-most : (t : Bool) → one t ≤ 1
@@ -141,6 +142,47 @@ module _ (ns : List Node) (g : Linked ns) where
         pigeon (length ns) (popped ++ stack) (λ x. omega (arith, count-append x popped stack, v .once x)) (λ x k. v .inside x (omega (arith, count-append x popped stack))),
       )
 
+  -- ---- nothing is left out: the source has been pushed, and all children of what has been popped
+  pub record Whole (popped stack : List ℕ) : Type 0 where
+    pub source : 0 < count 0 popped + count 0 stack
+    pub below : (x p : ℕ) → nodeAt ns x .parent ≡ at p → 0 < count p popped → 0 < count x popped + count x stack
+
+  pub whole-start : Whole [] (0 ∷ [])
+  unfolding count
+  whole-start = record { source = omega (arith, one-eq 0 0 refl); below = λ x p e h. absurd (omega arith) }
+
+  -- p is popped, and all of its children pushed
+  module _ (popped rest pushed : List ℕ) (p : ℕ) (w : Whole popped (p ∷ rest)) (h : (x : ℕ) → count x pushed ≡ count x (nodeAt ns p .children) + count x rest) where
+    -- what was there is there, and so are the children of p
+    there : (x : ℕ) → count x (p ∷ popped) + count x pushed ≡ count x popped + count x (p ∷ rest) + count x (nodeAt ns p .children)
+    unfolding count
+    there x = omega (arith, h x)
+
+    below-pop : (x y : ℕ) → nodeAt ns x .parent ≡ at y → 0 < count y (p ∷ popped) → 0 < count x (p ∷ popped) + count x pushed
+    unfolding count
+    below-pop x y e l = by (ℕ-discrete p y)
+      where
+        by : Dec (p ≡ y) → 0 < count x (p ∷ popped) + count x pushed
+        by (yes z) = omega (arith, there x, counted g x p (e ∙ ap at (sym z)))
+        by (no z) = omega (arith, there x, w .below x y e (omega (arith, one-ne p y z)))
+
+    pub whole-pop : Whole (p ∷ popped) pushed
+    whole-pop = record { source = omega (arith, there 0, w .source); below = below-pop }
+
+  -- with an empty stack every node has been popped: the source has, and any other has a parent, of lower rank
+  module _ (popped : List ℕ) (w : Whole popped []) where
+    popped-to : (r x : ℕ) → x < length ns → g .rank x < r → 0 < count x popped
+    unfolding count
+    popped-to zero x l k = absurd (omega arith)
+    popped-to (suc r) x l k = by (nodeAt ns x .parent) refl (popped-to r)
+      where
+        by : (y : Parent) → nodeAt ns x .parent ≡ y → ((i : ℕ) → i < length ns → g .rank i < r → 0 < count i popped) → 0 < count x popped
+        by none e ih = let z : x ≡ 0 = g .others x l e in omega (arith, w .source, ap (λ (i : ℕ). count i popped) z)
+        by (at y) e ih = omega (arith, w .below x y e (ih y (parent-in g x y e) (omega (arith, g .falls x y e))))
+
+    pub all-popped : (x : ℕ) → x < length ns → 0 < count x popped
+    all-popped x l = popped-to (suc (g .rank x)) x l (omega arith)
+
   -- ---- the walk
   module _ (shut : Point → Point → Point → Point → Bool) (limit : ℕ) (allowed : ℤ) (q : Point) where
     -- only children are pushed
@@ -157,16 +199,50 @@ module _ (ns : List Node) (g : Linked ns) where
         by true ih = omega arith
         by false ih = omega arith
 
-    empties : (k : ℕ) (popped stack : List ℕ) (f : Best) → Visit popped stack → k + length popped ≡ length ns → walk shut ns limit allowed q k stack f .stack ≡ []
-    unfolding walk
-    empties zero popped [] f v e = refl
-    empties zero popped (p ∷ rest) f v e = absurd (omega (arith, visit-room popped (p ∷ rest) v))
-    empties (suc k) popped [] f v e = refl
-    empties (suc k) popped (p ∷ rest) f v e =
-        empties k (p ∷ popped) _ _
-        (visit-pop popped rest _ p v (pushes p (nodeAt ns p .children) (record { found = f; stack = rest })))
-        (omega arith)
+    -- p is popped, with rest below it
+    abbrev pub afterPop : ℕ → List ℕ → Best → Walk
+    afterPop p rest f = branches shut ns limit allowed q p (nodeAt ns p .children) (record { found = f; stack = rest })
+
+    -- K, of what has been popped, the stack and what is found, is kept by each pop
+    abbrev pub Pops : (List ℕ → List ℕ → Best → Type 0) → Type 0
+    Pops K = (popped rest : List ℕ) (p : ℕ) (f : Best) → K popped (p ∷ rest) f → K (p ∷ popped) (afterPop p rest f .stack) (afterPop p rest f .found)
+
+    pub record Ended (K : List ℕ → List ℕ → Best → Type 0) (e : Walk) : Type 0 where
+      pub popped : List ℕ
+      pub empty : e .stack ≡ []
+      pub kept : K popped [] (e .found)
+
+    module _ (K : List ℕ → List ℕ → Best → Type 0) (pop : Pops K) where
+      ends : (k : ℕ) (popped stack : List ℕ) (f : Best) → Visit popped stack → k + length popped ≡ length ns → K popped stack f → Ended K (walk shut ns limit allowed q k stack f)
+      unfolding walk
+      ends zero popped [] f v e h = record { popped = popped; empty = refl; kept = h }
+      ends zero popped (p ∷ rest) f v e h = absurd (omega (arith, visit-room popped (p ∷ rest) v))
+      ends (suc k) popped [] f v e h = record { popped = popped; empty = refl; kept = h }
+      ends (suc k) popped (p ∷ rest) f v e h =
+          ends k (p ∷ popped) _ _
+          (visit-pop popped rest _ p v (pushes p (nodeAt ns p .children) (record { found = f; stack = rest })))
+          (omega arith)
+          (pop popped rest p f h)
+
+      pub walk-keeps : K [] (0 ∷ []) (fresh limit) → Ended K (walk shut ns limit allowed q (length ns) (0 ∷ []) (fresh limit))
+      walk-keeps = ends (length ns) [] (0 ∷ []) (fresh limit) visit-start (omega arith)
 
     -- as many turns as there are nodes are enough
     pub walk-ends : walk shut ns limit allowed q (length ns) (0 ∷ []) (fresh limit) .stack ≡ []
-    walk-ends = empties (length ns) [] (0 ∷ []) (fresh limit) visit-start (omega arith)
+    walk-ends = walk-keeps (λ popped stack f. Unit {0}) (λ popped rest p f h. tt) tt .empty
+
+    -- ---- with nothing in the way
+    module _ (clear : (a b c d : Point) → shut a b c d ≡ false) where
+      pub examined : (p c : ℕ) (e : Walk) → examine shut ns limit allowed q p c e ≡ record { found = judge shut ns limit allowed q p c (e .found); stack = c ∷ e .stack }
+      unfolding examine
+      examined p c e = rw clear
+
+      -- all children are pushed
+      pub pushes-all : (p : ℕ) (cs : List ℕ) (e : Walk) (x : ℕ) → count x (branches shut ns limit allowed q p cs e .stack) ≡ count x cs + count x (e .stack)
+      unfolding branches count
+      pushes-all p [] e x = omega arith
+      pushes-all p (c ∷ cs) e x =
+          omega (arith, ap (λ (w : Walk). count x (w .stack)) (examined p c (branches shut ns limit allowed q p cs e)), pushes-all p cs e x)
+
+      pub whole-after : (popped rest : List ℕ) (p : ℕ) (f : Best) → Whole popped (p ∷ rest) → Whole (p ∷ popped) (afterPop p rest f .stack)
+      whole-after popped rest p f h = whole-pop popped rest _ p h (pushes-all p (nodeAt ns p .children) (record { found = f; stack = rest }))

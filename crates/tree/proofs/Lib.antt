@@ -1,3 +1,4 @@
+pub mod Folding
 pub mod Order
 pub mod Alike
 pub mod Nodes
@@ -18,3 +19,4 @@ pub mod Splicing
 pub mod Closing
 pub mod Removing
 pub mod Optimizing
+pub mod Nearest

@@ -11,7 +11,7 @@ use Rattle.geometry.specs.Geometry.{dist}
 use Rattle.tree.specs.Tree.{Node, Name, terminal, steiner, Parent, none, at, nodeAt, replaceLast, sumTo, edge, toParent, total, above, up, climb, climbed}
 use Rattle.tree.specs.Search.{Join, onto, split, branch}
 use Rattle.tree.specs.Route.{attach, joined}
-use Rattle.tree.specs.Shape.{Linked, Measured}
+use Rattle.tree.specs.Shape.{Linked, PathSums, Measured}
 use Rattle.geometry.specs.Laws.{dist-self, dist-sym, triangle, via-parent, on-edge, near-parent}
 use Rattle.tree.proofs.Nodes.{AtNode, new, joint, old, at-node, length-attach, AtSplit, tip, knot, start, end, rest, at-split, length-split}
 use Rattle.tree.proofs.Linking.{child-in, parent-in, not-own, none-at, parent-attach, Over, over-c, over-t, over-s, over-old, parent-split}
@@ -97,32 +97,32 @@ Right ns c p = nodeAt ns c .path ≡ nodeAt ns p .path + dist (nodeAt ns p .poin
 right : (ns : List Node) (c p : ℕ) (C P : Core) → core (nodeAt ns c) ≡ C → core (nodeAt ns p) ≡ P → C .path ≡ P .path + dist (P .point) (C .point) → Right ns c p
 right ns c p C P e f h = ap (λ (x : Core). x .path) e ∙ h ∙ ap₂ (λ (x y : Core). x .path + dist (x .point) (y .point)) (sym f) (sym e)
 
-module _ (s : Point) (ns : List Node) (p : ℕ) (n : Node) (h : p < length ns) (g : Linked ns) (m : Measured s ns) (up : n .parent ≡ at p) (leaf : n .children ≡ [])
+module _ (ns : List Node) (p : ℕ) (n : Node) (h : p < length ns) (g : Linked ns) (up : n .parent ≡ at p) (leaf : n .children ≡ [])
     (run : n .path ≡ nodeAt ns p .path + dist (nodeAt ns p .point) (n .point)) where
-  paths-attach : (c x : ℕ) → nodeAt (attach ns p n) c .parent ≡ at x → Right (attach ns p n) c x
-  paths-attach c x e =
+  pub sums-attach : PathSums ns → PathSums (attach ns p n)
+  sums-attach sums c x e =
       ⊎-elim
       (λ r. let f : p ≡ x = at-inj (sym (r .1) ∙ e) in
       right _ c x _ _ (ap (λ (j : ℕ). core (nodeAt (attach ns p n) j)) (r .0) ∙ core-new ns p n h)
       (core-old ns p n h x (omega arith) ∙ ap (λ (j : ℕ). core (nodeAt ns j)) (sym f)) run)
       (λ r. let f : nodeAt ns c .parent ≡ at x = sym (r .1) ∙ e in
-      right _ c x _ _ (core-old ns p n h c (r .0)) (core-old ns p n h x (omega (arith, parent-in g c x f))) (m .paths c x f))
+      right _ c x _ _ (core-old ns p n h c (r .0)) (core-old ns p n h x (omega (arith, parent-in g c x f))) (sums c x f))
       (parent-attach ns p n h g up leaf c)
 
-  pub measured-attach : Measured s (attach ns p n)
-  measured-attach =
+  pub measured-attach : (s : Point) → Measured s ns → Measured s (attach ns p n)
+  measured-attach s m =
       record {
         source-point = ap (λ (x : Core). x .point) (core-old ns p n h 0 (omega (arith, g .some))) ∙ m .source-point;
         source-path = ap (λ (x : Core). x .path) (core-old ns p n h 0 (omega (arith, g .some))) ∙ m .source-path;
-        paths = paths-attach;
+        paths = sums-attach (m .paths);
       }
 
-module _ (s : Point) (ns : List Node) (st te : ℕ) (q : Point) (p c : ℕ) (g : Linked ns) (link : nodeAt ns c .parent ≡ at p) (m : Measured s ns) where
+module _ (ns : List Node) (st te : ℕ) (q : Point) (p c : ℕ) (g : Linked ns) (link : nodeAt ns c .parent ≡ at p) where
   abbrev SN : List Node
   SN = joined ns st te q (split p c)
 
-  paths-split : (b x : ℕ) → nodeAt SN b .parent ≡ at x → Right SN b x
-  paths-split b x e = by (parent-split ns st te q p c g link b)
+  pub sums-split : PathSums ns → PathSums SN
+  sums-split sums b x e = by (parent-split ns st te q p c g link b)
     where
       is : {y : ℕ} → nodeAt SN b .parent ≡ at y → x ≡ y
       is r = at-inj (sym e ∙ r)
@@ -134,7 +134,7 @@ module _ (s : Point) (ns : List Node) (st te : ℕ) (q : Point) (p c : ℕ) (g :
       by (over-c f r) =
           right _ b x (core (nodeAt ns c)) _ (for b c f ∙ core-rest ns st te q p c g link c (omega (arith, child-in g c p link)) (omega (arith, child-in g c p link)))
           (for x _ (is r) ∙ core-knot ns st te q p c g link)
-          (omega (arith, m .paths c p link, on-edge (nodeAt ns p .point) (nodeAt ns c .point) q))
+          (omega (arith, sums c p link, on-edge (nodeAt ns p .point) (nodeAt ns c .point) q))
       by (over-t f r) = right _ b x _ _ (for b _ f ∙ core-tip ns st te q p c g link) (for x _ (is r) ∙ core-knot ns st te q p c g link) refl
       by (over-s f r) =
           right _ b x _ (core (nodeAt ns p)) (for b _ f ∙ core-knot ns st te q p c g link)
@@ -142,14 +142,14 @@ module _ (s : Point) (ns : List Node) (st te : ℕ) (q : Point) (p c : ℕ) (g :
       by (over-old f f′ f″ r) =
           let d : nodeAt ns b .parent ≡ at x = sym r ∙ e in
           right _ b x _ _ (core-rest ns st te q p c g link b f′ f″)
-          (core-rest ns st te q p c g link x (omega (arith, parent-in g b x d)) (omega (arith, parent-in g b x d))) (m .paths b x d)
+          (core-rest ns st te q p c g link x (omega (arith, parent-in g b x d)) (omega (arith, parent-in g b x d))) (sums b x d)
 
-  pub measured-split : Measured s SN
-  measured-split =
+  pub measured-split : (s : Point) → Measured s ns → Measured s SN
+  measured-split s m =
       record {
         source-point = ap (λ (x : Core). x .point) (core-rest ns st te q p c g link 0 (omega (arith, g .some)) (omega arith)) ∙ m .source-point;
         source-path = ap (λ (x : Core). x .path) (core-rest ns st te q p c g link 0 (omega (arith, g .some)) (omega arith)) ∙ m .source-path;
-        paths = paths-split;
+        paths = sums-split (m .paths);
       }
 
 -- ---- the way up

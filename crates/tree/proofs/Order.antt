@@ -1,4 +1,4 @@
--- The order of terminals: `ordered s` is a total order of points, and `place` commutes. So a fold whose steps commute depends on how often each point stands there.
+-- The order of terminals: `ordered s` is a total order of points, so `place` commutes; and a fold whose steps commute depends on how often each point stands there (Folding.antt).
 use mathlib.Core.Path.{_≡_, refl, sym, ap, ap₂, subst, _∙_}
 use mathlib.Core.Logic.{_⊎_, inl, inr, ⊎-elim}
 use mathlib.Core.Bool.{Bool, true, false, _&&_, _||_, cond}
@@ -14,6 +14,7 @@ use Rattle.geometry.specs.declared.Point.{Point}
 use Rattle.geometry.specs.Geometry.{dist, same, eqZ}
 use Rattle.tree.specs.Tree.{one}
 use Rattle.tree.specs.Route.{ordered, place, times, SameTerminals, sort, farthest, directs}
+use Rattle.tree.proofs.Folding.{Total, Places, places-comm, Counts, fold-same}
 use Rattle.geometry.specs.Signed.{bias, In, lt-yes, lt-no, le-yes, le-no, bias-inj}
 
 -- ---- Boolean tests
@@ -181,48 +182,20 @@ module _ (s p q : Point) where
 
 -- ---- placing commutes
 module _ (s : Point) where
-  place-yes : (p q : Point) (l : List Point) → ordered s p q ≡ true → place s p (q ∷ l) ≡ p ∷ q ∷ l
+  in-order : Total (ordered s)
+  in-order = record { trans = ordered-trans s; either = ordered-total s; anti = ordered-anti s }
+
+  placing : Places (ordered s) (place s)
   unfolding place
-  place-yes p q l e = ap (λ (t : Bool). cond t (p ∷ q ∷ l) (q ∷ place s p l)) e
-
-  place-no : (p q : Point) (l : List Point) → ordered s p q ≡ false → place s p (q ∷ l) ≡ q ∷ place s p l
-  unfolding place
-  place-no p q l e = ap (λ (t : Bool). cond t (p ∷ q ∷ l) (q ∷ place s p l)) e
-
-  not-both : {X : Type 0} (p q : Point) → ordered s p q ≡ false → ordered s q p ≡ false → X
-  not-both p q e f = clash (sym f ∙ ordered-total s p q e)
-
-  place-nil : (p : Point) → place s p [] ≡ p ∷ []
-  unfolding place
-  place-nil p = refl
-
-  two : (a b : Point) (t u : Bool) → ordered s a b ≡ t → ordered s b a ≡ u → place s a (place s b []) ≡ place s b (place s a [])
-  two a b true true e f = let h = ordered-anti s a b e f in λ i. place s (h i) (place s (sym h i) [])
-  two a b true false e f = cc (place-nil a, place-nil b, place-yes a b [] e, place-no b a [] f)
-  two a b false true e f = cc (place-nil a, place-nil b, place-no a b [] e, place-yes b a [] f)
-  two a b false false e f = not-both a b e f
-
-  module _ (a b x : Point) (l : List Point) where
-    three : (t u v w : Bool) → ordered s a x ≡ t → ordered s b x ≡ u → ordered s a b ≡ v → ordered s b a ≡ w
-        → place s a (place s b l) ≡ place s b (place s a l) → place s a (place s b (x ∷ l)) ≡ place s b (place s a (x ∷ l))
-    three false false v w e f g h ih =
-        cc (place-no a x l e, place-no b x l f, place-no a x (place s b l) e, place-no b x (place s a l) f, ih)
-    three true false v true e f g h ih = clash (sym f ∙ ordered-trans s b a x h e)
-    three true false v false e f g h ih =
-        cc (place-yes a x l e, place-no b x l f, place-yes a x (place s b l) e, place-no b a (x ∷ l) h)
-    three false true true w e f g h ih = clash (sym e ∙ ordered-trans s a b x g f)
-    three false true false w e f g h ih =
-        cc (place-no a x l e, place-yes b x l f, place-yes b x (place s a l) f, place-no a b (x ∷ l) g)
-    three true true true true e f g h ih = let k = ordered-anti s a b g h in λ i. place s (k i) (place s (sym k i) (x ∷ l))
-    three true true true false e f g h ih =
-        cc (place-yes a x l e, place-yes b x l f, place-yes a b (x ∷ l) g, place-no b a (x ∷ l) h)
-    three true true false true e f g h ih =
-        cc (place-yes a x l e, place-yes b x l f, place-no a b (x ∷ l) g, place-yes b a (x ∷ l) h)
-    three true true false false e f g h ih = not-both a b g h
+  placing =
+      record {
+        last = λ p. refl;
+        here = λ p q l e. ap (λ (t : Bool). cond t (p ∷ q ∷ l) (q ∷ place s p l)) e;
+        on = λ p q l e. ap (λ (t : Bool). cond t (p ∷ q ∷ l) (q ∷ place s p l)) e;
+      }
 
   pub place-comm : (a b : Point) (l : List Point) → place s a (place s b l) ≡ place s b (place s a l)
-  place-comm a b [] = two a b (ordered s a b) (ordered s b a) refl refl
-  place-comm a b (x ∷ l) = three a b x l (ordered s a x) (ordered s b x) (ordered s a b) (ordered s b a) refl refl refl refl (place-comm a b l)
+  place-comm = places-comm in-order placing
 
 -- ---- the test that two points are the same
 eqZ-eq : (a b : ℤ) → eqZ a b ≡ true → a ≡ b
@@ -253,29 +226,13 @@ same-refl p =
     and-join _ _ (and-join _ _ (leZ-refl (p .xcoord)) (leZ-refl (p .xcoord))) (and-join _ _ (leZ-refl (p .ycoord)) (leZ-refl (p .ycoord)))
 
 -- ---- a fold whose steps commute
-module _ {B : Type 0} (step : Point → B → B) (z : B) (comm : (a b : Point) (r : B) → step a (step b r) ≡ step b (step a r)) where
-  abbrev Out : Point → List Point → Type 0
-  Out a us = (r : List Point) × (foldr step z us ≡ step a (foldr step z r)) × ((p : Point) → times p (a ∷ r) ≡ times p us)
+counting : Counts same times
+unfolding times
+counting = record { is = same-eq; self = same-refl; none = λ p. refl; more = λ p q l. refl }
 
-  -- one a taken out of us
-  take-out : (a : Point) (us : List Point) → 0 < times a us → Out a us
-  unfolding times
-  take-out a [] h = absurd (omega arith)
-  take-out a (u ∷ us) h = by (same a u) refl (take-out a us)
-    where
-      by : (t : Bool) → same a u ≡ t → (0 < times a us → Out a us) → Out a (u ∷ us)
-      by true e ih = let k = same-eq a u e in (us, ap (λ (c : Point). step c (foldr step z us)) (sym k), λ p. ap (λ (c : Point). one (same p c) + times p us) k)
-      by false e ih =
-          let r = ih (omega (arith, ap one e)) in
-          (u ∷ r .0, ap (step u) (r .1) ∙ comm u a _, λ p. omega (arith, r .2 p))
-
-  pub same-fold : (ts us : List Point) → SameTerminals ts us → foldr step z ts ≡ foldr step z us
-  unfolding times
-  same-fold [] [] h = refl
-  same-fold [] (u ∷ us) h = absurd (omega (arith, h u, ap one (same-refl u)))
-  same-fold (t ∷ ts) us h =
-      let r = take-out t us (omega (arith, h t, ap one (same-refl t))) in
-      ap (step t) (same-fold ts (r .0) (λ p. omega (arith, h p, r .2 p))) ∙ sym (r .1)
+pub same-fold : {B : Type 0} (step : Point → B → B) (z : B) → ((a b : Point) (r : B) → step a (step b r) ≡ step b (step a r))
+    → (ts us : List Point) → SameTerminals ts us → foldr step z ts ≡ foldr step z us
+same-fold = fold-same counting
 
 pub sort-same : (s : Point) (ts us : List Point) → SameTerminals ts us → sort s ts ≡ sort s us
 sort-same s ts us h = same-fold (place s) [] (place-comm s) ts us h

@@ -17,12 +17,12 @@ use Rattle.geometry.specs.Geometry.{dist}
 use Rattle.tree.specs.Tree.{Node, Tree, Name, source, terminal, steiner, Parent, none, at, nodeAt, total, sumTo, edge, climb, climbed, terminals, numbered}
 use Rattle.tree.specs.Search.{Join, onto, split, find, blocked, branch}
 use Rattle.tree.specs.Route.{newNode, attach, closest, insertSimple, joined, join, nextAfter, insert, inserts, rooted, sort, farthest, directs, route, constraints, steiners}
-use Rattle.tree.specs.Shape.{Linked, Measured, Named, Ceiling, Bounded, nameOf, count, isAt, Meets}
+use Rattle.tree.specs.Shape.{Linked, PathSums, Measured, Named, Ceiling, Bounded, nameOf, count, isAt, Meets}
 use Rattle.tree.specs.WellFormed.{Fits}
 use Rattle.tree.proofs.Order.{clash, farthest-sort, directs-sort, times-sort}
 use Rattle.tree.proofs.Nodes.{length-attach, length-split}
 use Rattle.tree.proofs.Linking.{child-in, parent-in, not-own, none-at, linked-attach, linked-split}
-use Rattle.tree.proofs.Measuring.{Core, core, core-new, core-old, core-tip, core-knot, core-rest, measured-attach, measured-split, total-attach, total-split, reaches, path-is-sum}
+use Rattle.tree.proofs.Measuring.{Core, core, core-new, core-old, core-tip, core-knot, core-rest, sums-attach, sums-split, measured-attach, measured-split, total-attach, total-split, reaches, path-is-sum}
 use Rattle.tree.proofs.Naming.{source-terminal, named-split, terminals-joined}
 use Rattle.tree.proofs.Adding.{adds-attach, named-adds}
 use Rattle.tree.proofs.Searching.{added, reach, Worth, find-worth}
@@ -37,10 +37,15 @@ module _ (s : Point) (ns : List Node) (st te : ℕ) (q : Point) (g : Linked ns) 
   linked-joined (onto p) h = linked-attach ns p (tip p) h g refl refl
   linked-joined (split p c) h = linked-split ns st te q p c g h
 
+  pub sums-joined : (j : Join) → Fits ns j → PathSums ns → PathSums (joined ns st te q j)
+  unfolding joined
+  sums-joined (onto p) h m = sums-attach ns p (tip p) h g refl refl refl m
+  sums-joined (split p c) h m = sums-split ns st te q p c g h m
+
   measured-joined : (j : Join) → Fits ns j → Measured s ns → Measured s (joined ns st te q j)
   unfolding joined
-  measured-joined (onto p) h m = measured-attach s ns p (tip p) h g m refl refl refl
-  measured-joined (split p c) h m = measured-split s ns st te q p c g h m
+  measured-joined (onto p) h m = measured-attach ns p (tip p) h g refl refl refl s m
+  measured-joined (split p c) h m = measured-split ns st te q p c g h s m
 
   total-joined : (j : Join) → Fits ns j → total (joined ns st te q j) ≡ total ns + added ns q j
   unfolding joined

@@ -40,7 +40,7 @@ and-false : (a b : Bool) → a ≡ true → a && b ≡ false → b ≡ false
 and-false true b e f = f
 and-false false b e f = clash e
 
-not-or : (a b : Bool) → a ≡ true → not a || b ≡ true → b ≡ true
+pub not-or : (a b : Bool) → a ≡ true → not a || b ≡ true → b ≡ true
 not-or true b e f = f
 not-or false b e f = clash e
 

@@ -33,10 +33,14 @@ pub record Linked (ns : List Node) : Type 0 where
   pub small : (i : ℕ) → i < length ns → rank i < length ns
   pub falls : (c p : ℕ) → nodeAt ns c .parent ≡ at p → rank p < rank c
 
+-- each path length is the parent's plus d
+abbrev pub PathSums : List Node → Type 0
+PathSums ns = (c p : ℕ) → nodeAt ns c .parent ≡ at p → nodeAt ns c .path ≡ nodeAt ns p .path + dist (nodeAt ns p .point) (nodeAt ns c .point)
+
 pub record Measured (s : Point) (ns : List Node) : Type 0 where
   pub source-point : nodeAt ns 0 .point ≡ s
   pub source-path : nodeAt ns 0 .path ≡ 0
-  pub paths : (c p : ℕ) → nodeAt ns c .parent ≡ at p → nodeAt ns c .path ≡ nodeAt ns p .path + dist (nodeAt ns p .point) (nodeAt ns c .point)
+  pub paths : PathSums ns
 
 -- a number from 1 up to what is given next
 abbrev pub Given : ℕ → ℕ → Name → Type 0

@@ -1,13 +1,12 @@
--- `planning::plan`: the outcome of routing decides.
-use denote.Ref.{now}
+-- `planning::plan`: the job's answer decides.
 use Rattle.output.proofs.Answering.{answers-of}
 use Rattle.planning.proofs.Parts.{of-refusal, of-tree}
 use borrow.Author.Needs.{needs}
 use Rattle.planning.proofs.plan.Statement.{statement}
 use Rattle.planning.proofs.plan.Tie as tie
 
-route-requires : tie.Need-route-requires
-route-requires c κs = search needs
+route-table-requires : tie.Need-route-table-requires
+route-table-requires c κs = search needs
 
 enum-known-answer : tie.Need-enum-known-answer
 enum-known-answer c = search needs
@@ -25,19 +24,19 @@ same-length : tie.Need-same-length
 same-length c = c .before .before .write-refusal .kept .1 .0
 
 returns : tie.Need-returns
-returns c = answers-of (of-refusal (now (c .before .before .before .before .before .before .before .before .before .before .args .job)) (c .before .before .before .before .before .before .before .route .ensures .0) (c .before .before .before .before .before .answer .given .1)) (c .before .before .write-refusal .ensures)
+returns c = answers-of (of-refusal _ (c .before .before .before .before .before .before .before .route-table .ensures) (c .before .before .before .before .before .answer .given .1)) (c .before .before .write-refusal .ensures)
 
 same-length-2 : tie.Need-same-length-2
 same-length-2 c = c .before .before .write-tree .kept .1 .0
 
 returns-2 : tie.Need-returns-2
-returns-2 c = answers-of (of-tree (now (c .before .before .before .before .before .before .before .before .before .before .args .job)) (c .before .before .before .before .before .before .before .route .ensures .0) (c .before .before .before .before .before .enum-told .given .1)) (c .before .before .write-tree .ensures)
+returns-2 c = answers-of (of-tree _ (c .before .before .before .before .before .before .before .route-table .ensures) (c .before .before .before .before .before .enum-told .given .1)) (c .before .before .write-tree .ensures)
 
 pub plan-spec : {M : Type 1} → statement M
 plan-spec =
     tie.close
     (tie.spec
-    route-requires
+    route-table-requires
     enum-known-answer
     write-refusal-requires
     enum-told

@@ -1,22 +1,16 @@
 -- `planning::write_tree`: where the text has at most 65,536 bytes, the text and the figures; else 11.
-use Rattle.global_router.specs.Stored.{treeOf}
+use Rattle.nodes.specs.Table.{tableTree}
 use Rattle.output.proofs.Answering.{answers-of}
 use Rattle.planning.specs.Output.{figuresLine, treeOutput}
 use Rattle.planning.proofs.Parts.{Front, with-figures, too-long}
-use mathlib.Core.Path.{sym, ap}
+use mathlib.Core.Path.{sym}
 use lib.Seq.{length-take-le}
-use Rattle.wire.specs.Puts.{puts-as}
-use Rattle.tree.specs.Tree.{Tree}
-use Rattle.text.specs.Text.{textOf}
 use borrow.Author.Needs.{needs}
 use Rattle.planning.proofs.write_tree.Statement.{statement}
 use Rattle.planning.proofs.write_tree.Tie as tie
 
 read-figures-requires : tie.Need-read-figures-requires
 read-figures-requires c κs = search needs
-
-to-table-requires : tie.Need-to-table-requires
-to-table-requires c κs = search needs
 
 output-buffer-requires : tie.Need-output-buffer-requires
 output-buffer-requires c κs = search needs
@@ -34,10 +28,7 @@ same-length : tie.Need-same-length
 same-length c = search needs
 
 returns : tie.Need-returns
-returns c =
-    let t = c .before .before .before .before .before .before .before .before .before .before .before .before .args .t in
-    let text = puts-as (c .before .before .before .before .before .before .put-text .ensures) (ap (λ (x : Tree). textOf (x .nodes)) (c .before .before .before .before .before .before .before .before .before .to-table .ensures .0)) in
-    answers-of (too-long (treeOf t) (c .before .before .before .before .before .before .before .before .output-buffer .ensures) text (c .before .before .before .before .if1 .taken)) (c .before .before .write-refusal .ensures)
+returns c = answers-of (too-long (tableTree (c .before .before .before .before .before .before .before .before .before .before .before .args .t)) (c .before .before .before .before .before .before .before .before .output-buffer .ensures) (c .before .before .before .before .before .before .put-text .ensures) (c .before .before .before .before .if1 .taken)) (c .before .before .write-refusal .ensures)
 
 slice-aggregate-put-figures : tie.Need-slice-aggregate-put-figures
 slice-aggregate-put-figures c = search needs
@@ -46,11 +37,10 @@ put-figures-requires : tie.Need-put-figures-requires
 put-figures-requires c κs = search needs
 
 -- the buffer's first bytes are the output
-whole : (c : tie.After-text4) → Front (treeOutput (treeOf (c .before .before .before .before .before .before .before .before .before .before .before .args .t))) (c .before .put-figures .last .0) (c .before .put-figures .result)
+whole : (c : tie.After-text4) → Front (treeOutput (tableTree (c .before .before .before .before .before .before .before .before .before .before .args .t))) (c .before .put-figures .last .0) (c .before .put-figures .result)
 whole c =
-    let g = c .before .before .before .before .before .before .before .before .before .read-figures .ensures in
-    let text = puts-as (c .before .before .before .before .before .put-text .ensures) (ap (λ (x : Tree). textOf (x .nodes)) (c .before .before .before .before .before .before .before .before .to-table .ensures .0)) in
-    with-figures (treeOf (c .before .before .before .before .before .before .before .before .before .before .before .args .t)) (c .before .before .before .before .before .before .before .output-buffer .ensures) text (c .before .before .before .if1 .left) (λ i. figuresLine (g .0 i) (g .1 .0 i) (g .1 .1 .0 i) (g .1 .1 .1 i)) (c .before .put-figures .ensures)
+    let g = c .before .before .before .before .before .before .before .before .read-figures .ensures in
+    with-figures (tableTree (c .before .before .before .before .before .before .before .before .before .before .args .t)) (c .before .before .before .before .before .before .before .output-buffer .ensures) (c .before .before .before .before .before .put-text .ensures) (c .before .before .before .if1 .left) (λ i. figuresLine (g .0 i) (g .1 .0 i) (g .1 .1 .0 i) (g .1 .1 .1 i)) (c .before .put-figures .ensures)
 
 array-share-prefix-text : tie.Need-array-share-prefix-text
 array-share-prefix-text c = whole c .low
@@ -72,7 +62,6 @@ write-tree-spec =
     tie.close
     (tie.spec
     read-figures-requires
-    to-table-requires
     output-buffer-requires
     slice-aggregate-put-text
     put-text-requires

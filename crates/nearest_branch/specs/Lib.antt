@@ -1,0 +1,4 @@
+pub mod Summed
+pub mod Ranks
+pub mod Columns
+pub mod Sole
