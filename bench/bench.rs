@@ -153,11 +153,23 @@ fn branches(bytes: &[u8]) -> u64 {
 
 // ---- jobs and rows
 
-/// Terminals on a square of 2 km about the source, keepouts of up to 40 m; the multiplier is 1.
-fn make_job(case: u64, mode: u8, keepouts: usize) -> Vec<u8> {
+/// Where a row's terminals stand on a square of 2 km about the source: anywhere, or on a grid of 100 m, where many branches are
+/// as near as another.
+#[derive(Clone, Copy, PartialEq)]
+enum Spread {
+    Anywhere,
+    Grid,
+}
+
+/// Keepouts are of up to 40 m, the multiplier is 1.
+fn make_job(case: u64, mode: u8, keepouts: usize, spread: Spread) -> Vec<u8> {
     let mut random = Random::of_case(1, case);
     let mut point = || Point::new(random.between(-100_000, 100_000), random.between(-100_000, 100_000));
-    let terminals: Vec<Pt> = (0..TERMINALS).map(|_| point()).collect();
+    let placed = |p: Pt| match spread {
+        Spread::Anywhere => p,
+        Spread::Grid => Point::new(p.xcoord / 10_000 * 10_000, p.ycoord / 10_000 * 10_000),
+    };
+    let terminals: Vec<Pt> = (0..TERMINALS).map(|_| placed(point())).collect();
     let corners: Vec<Pt> = (0..keepouts).map(|_| point()).collect();
     let mut side = || random.between(100, 4_000);
     let kept: Vec<Rect> = corners
@@ -178,20 +190,22 @@ fn nanoseconds<T>(call: impl FnOnce() -> T) -> u64 {
     start.elapsed().as_nanos() as u64
 }
 
-/// A mode, a number of keepouts, and whether the answer is text; its jobs, and the least time of each, ours and the Rust's.
+/// A mode, a number of keepouts, where the terminals stand, and whether the answer is text; its jobs, and the least time of each,
+/// ours and the Rust's.
 struct Row {
     mode: u8,
     keepouts: usize,
+    spread: Spread,
     text: bool,
     jobs: Vec<Vec<u8>>,
     least: Vec<(u64, u64)>,
 }
 
 impl Row {
-    fn new(mode: u8, keepouts: usize, text: bool) -> Self {
-        let jobs: Vec<Vec<u8>> = (0..JOBS).map(|case| make_job(case, mode, keepouts)).collect();
+    fn new(mode: u8, keepouts: usize, spread: Spread, text: bool) -> Self {
+        let jobs: Vec<Vec<u8>> = (0..JOBS).map(|case| make_job(case, mode, keepouts, spread)).collect();
         let least = vec![(u64::MAX, u64::MAX); jobs.len()];
-        Row { mode, keepouts, text, jobs, least }
+        Row { mode, keepouts, spread, text, jobs, least }
     }
 
     /// Both sides give the same for each job.
@@ -246,6 +260,7 @@ impl Row {
             format!("{n:.0} | {:.1} | {:.1}", a / n, b / n)
         };
         let to = if self.text { "text" } else { "figures" };
+        let to = if self.spread == Spread::Grid { format!("{to}, grid") } else { to.to_string() };
         println!("| {} | {} | {to} | {a:.0} | {b:.0} | {:.2} | {each} |", self.mode, self.keepouts, a / b);
     }
 }
@@ -257,9 +272,12 @@ fn main() {
     for text in [false, true] {
         for mode in [2, 1, 0] {
             for keepouts in [0, 64] {
-                rows.push(Row::new(mode, keepouts, text));
+                rows.push(Row::new(mode, keepouts, Spread::Anywhere, text));
             }
         }
+    }
+    for mode in [2, 1, 0] {
+        rows.push(Row::new(mode, 0, Spread::Grid, false));
     }
     for row in &rows {
         row.compare(&mut out);

@@ -22,7 +22,7 @@ ghost use Rattle.joining.specs.Standing.{Standing, At};
 ghost use Rattle.boxes.specs.Covering.{pointBox, stretch, widen, Room, Put, Raised, Climbed, Shown, JoinCovered, SplitCovered, Coverable, EndsIn, JoinedUnder};
 
 // How many numbers a column of boxes has: two for each node.
-pub const BOUNDS: usize = 500;
+pub const BOUNDS: usize = 2 * tree::MOST_NODES;
 
 // The bounds of a box that has every point.
 pub const LOWEST: i32 = -2147483648;
@@ -32,7 +32,7 @@ pub const HIGHEST: i32 = 2147483647;
 // ---- one box
 
 // The box of one point.
-pub fn point_box(q: Point) -> Rectangle
+fn point_box(q: Point) -> Rectangle
     ensures { λ r. ⌜ r ≡ pointBox q ⌝ }
 {
     let x = Interval {
@@ -89,7 +89,7 @@ fn box_at<'a>(lows: &'a [i32], highs: &'a [i32], i: usize) -> Rectangle
     }
 }
 
-pub fn put_box(lows: &mut [i32], highs: &mut [i32], i: usize, b: Rectangle)
+fn put_box(lows: &mut [i32], highs: &mut [i32], i: usize, b: Rectangle)
     requires { ⌜ Room (i + 1) (now lows) (now highs) ⌝ }
     ensures { λ r. ⌜ Put (now (lows .entry)) (now (highs .entry)) i b (now (lows .exit)) (now (highs .exit)) ⌝ }
 {

@@ -18,7 +18,7 @@ const ZERO: u8 = 48;
 const MINUS: u8 = 45;
 
 // How many digits the largest u32 has.
-const MOST: usize = 10;
+const MOST_DIGITS: usize = 10;
 
 // The powers of ten, from 10^0 on.
 const POWERS: [u32; 10] = [
@@ -94,7 +94,7 @@ fn count_digits(m: u32) -> usize
     ensures { λ r. ⌜ Sized m r ⌝ }
 {
     let mut n: usize = 1;
-    while n < MOST {
+    while n < MOST_DIGITS {
         if m < power(n) {
             return n;
         }

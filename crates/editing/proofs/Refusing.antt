@@ -17,12 +17,11 @@ use Rattle.tree.proofs.Routing.{closest-in}
 use Rattle.tree.proofs.Fitting.{find-fits}
 use Rattle.search.specs.declared.Query.{Query}
 use Rattle.search.specs.declared.Join.{Join}
-use Rattle.search.specs.Branch.{keepoutsOf}
+use Rattle.tree.specs.Memory.{keepoutsOf}
 use Rattle.search.specs.Find.{joinOf, Kept, Ready, Joins}
 use Rattle.boxes.specs.Covering.{lowest, highest}
 use Rattle.boxes.proofs.Fresh.{covers-any}
-use Rattle.inserting.specs.Insert.{Points, NearColumns, ClosestOf}
-use Rattle.tree.specs.Tree.{Node, Tree, Name, source, steiner, terminal, Parent, none, at, nodeAt}
+use Rattle.tree.specs.Tree.{Tree, Name, source, steiner, terminal, Parent, none, at}
 use Rattle.tree.specs.Memory.{nameIn}
 use Rattle.tree.specs.Search as T
 use Rattle.tree.specs.Search.{anyOf}
@@ -178,28 +177,10 @@ room t more number e =
 pub gives : {t r : Table} {step : Tree → Tree} {n : NodeName} → Stepped step t r → Edits (inserted (nameIn n) (step (tableTree t))) t (record { answer = Inserted n; table = r })
 gives {n = n} v = record { is = ap (inserted (nameIn n)) (v .is); kept = tt; tabled = v .tabled }
 
--- ---- a tree in columns, as the search and the closest node read it
+-- ---- a tree in columns, as the search reads it; and its closest node
 module _ {t : Table} (v : Tabled t) where
   few : length (tableTree t .nodes) ≤ mostNodes
   few = omega (arith, size t, v .few)
-
-  points : Points (tableTree t .nodes) (t .counts .nodes) (t .xs) (t .ys)
-  points = record { size = size t; points = λ i h. sym (ap (λ (n : Node). n .point) (v .keeps .rows i (omega (arith, size t)))) }
-
-  module _ (q : Point) (near : Within reach q) where
-    pub near-columns : NearColumns (t .counts .nodes) (t .xs) (t .ys) q
-    near-columns =
-        record {
-          some = some v;
-          few = v .few;
-          in-xs = omega (arith, v .sized .rows .xs, v .few);
-          in-ys = omega (arith, v .sized .rows .ys, v .few);
-          near = λ i h. subst (Within reach) (sym (points .points i h)) (v .formed .near i);
-          within = near;
-        }
-
-    pub closest-is : (p : ℕ) → ClosestOf (t .counts .nodes) (t .counts .nodes) (t .xs) (t .ys) q p → p ≡ closest (tableTree t .nodes) q (length (tableTree t .nodes))
-    closest-is p e = e (tableTree t .nodes) points ∙ ap (closest (tableTree t .nodes) q) (sym (size t))
 
   pub closest-low : (q : Point) → closest (tableTree t .nodes) q (length (tableTree t .nodes)) < t .counts .nodes
   closest-low q = omega (arith, closest-in (tableTree t .nodes) q (v .formed .linked .some) (length (tableTree t .nodes)) (omega arith), size t)

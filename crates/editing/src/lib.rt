@@ -17,7 +17,7 @@ ghost use Rattle.tree.specs.Search.{find, blocked};
 ghost use Rattle.tree.specs.Route.{closest};
 ghost use Rattle.tree.specs.Memory.{nameIn};
 ghost use Rattle.tree.specs.WellFormed.{Fits, newNodes};
-ghost use Rattle.search.specs.Branch.{keepoutsOf};
+ghost use Rattle.tree.specs.Memory.{keepoutsOf};
 ghost use Rattle.search.specs.Find.{joinOf};
 ghost use Rattle.nodes.specs.Nodes.{lookupOf};
 ghost use Rattle.nodes.specs.Table.{tableTree, Tabled};
@@ -116,7 +116,7 @@ fn terminal_parent(t: Table, q: Point, parent: ParentName) -> Lookup
 {
     match parent {
         ParentName::Default => {
-            let p = inserting::find_nearest_node(&t.xs, &t.ys, t.counts.nodes, q);
+            let p = nearest::find_nearest_node(&t.xs, &t.ys, t.counts.nodes, q);
             Lookup::Found(p)
         }
         ParentName::Of(name) => nodes::find_node(t, name),

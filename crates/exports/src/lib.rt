@@ -72,7 +72,7 @@ pub extern "C" fn ferruleslate_figures(
         ReadAnswer::Refused(n) => refusal(n),
         ReadAnswer::Accepted => {
             let t = routed.table;
-            let f = planning::read_figures(t);
+            let f = reading::read_figures(t);
             let a = f.allowed;
             let w = f.farthest;
             let l = f.total;

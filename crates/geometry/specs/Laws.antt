@@ -93,9 +93,6 @@ module _ (P C q : Point) where
   pub near-parent : dist (nearest (box P C) q) q ≤ dist P q
   near-parent = omega (arith, via-parent)
 
-  pub near-child : dist (nearest (box P C) q) q ≤ dist C q
-  near-child = omega (arith, via-child)
-
   -- a way from P to C by q is longer than the direct one by twice the distance from q to the box
   pub twice-near : dist P q + dist C q ≡ dist P C + 2 * dist (nearest (box P C) q) q
   twice-near = omega (arith, via-parent, via-child, on-edge, dist-sym C (nearest (box P C) q))

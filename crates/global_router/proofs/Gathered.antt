@@ -10,7 +10,7 @@ use Rattle.geometry.specs.declared.Rectangle.{Rectangle}
 use Rattle.tree.specs.Tree.{Tree}
 use Rattle.tree.specs.Search.{anyOf, find, blocked}
 use Rattle.job.specs.Job.{outside, invalidKeepout}
-use Rattle.search.specs.Branch.{keepoutsOf}
+use Rattle.tree.specs.Memory.{keepoutsOf}
 use Rattle.rectangles.specs.declared.Flat.{Flat}
 use Rattle.rectangles.specs.Rectangles.{room}
 use Rattle.rectangles.proofs.Gathering.{answers-same}

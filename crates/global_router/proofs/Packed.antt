@@ -11,7 +11,7 @@ use Rattle.tree.specs.Tree.{Node}
 use Rattle.tree.specs.WellFormed.{WellFormed}
 use Rattle.tree.specs.declared.RoutingNode.{RoutingNode}
 use Rattle.tree.proofs.Measuring.{reaches}
-use Rattle.search.specs.Columns.{Chain, Linked}
+use Rattle.search.specs.Columns.{Chain, Chained}
 use Rattle.joining.specs.Store.{nodeOf, upTo}
 use Rattle.joining.proofs.Reading.{length-upto, children-are}
 use Rattle.nodes.specs.Nodes.{blankNode, Packs}
@@ -66,7 +66,7 @@ module _ (t : Table) (v : Tabled t) (nodes : List RoutingNode) (packs : Packs (t
   formed : WellFormed (treeOf (memory t nodes (t .allowed)))
   formed = subst WellFormed (sym packed-is) (v .formed)
 
-  chains : (p : ℕ) → p < t .counts .nodes → Linked (t .prev) (getD (t .last) p 0)
+  chains : (p : ℕ) → p < t .counts .nodes → Chained (t .prev) (getD (t .last) p 0)
   chains p h =
       let l : p < length (tableTree t .nodes) = omega (arith, size) in
       record {

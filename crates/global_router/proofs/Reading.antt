@@ -12,11 +12,11 @@ use Rattle.nodes.specs.declared.Lookup.{Lookup}
 use Rattle.nodes.specs.declared.Table.{Table}
 use Rattle.nodes.specs.Nodes.{lookupOf}
 use Rattle.nodes.specs.Table.{tableColumns, tableTree}
+use Rattle.reading.specs.Paths.{PathNamed}
 use Rattle.editing.specs.Edits.{nodeNamed}
-use Rattle.global_router.specs.Reading.{PathAnswers}
 
-pub path-of : {x y : Tree} (n : Name) (out out′ : List ℕ) (r : Answer) → x ≡ y → PathAnswers x n out r out′ → PathAnswers y n out r out′
-path-of n out out′ r e a = subst (λ (t : Tree). PathAnswers t n out r out′) e a
+pub path-of : {x y : Tree} (n : Name) (out out′ : List ℕ) (r : Answer) → x ≡ y → PathNamed (x .nodes) n out r out′ → PathNamed (y .nodes) n out r out′
+path-of n out out′ r e a = subst (λ (t : Tree). PathNamed (t .nodes) n out r out′) e a
 
 -- the node that has a name
 pub named-is : (t : Table) {x : Tree} → tableTree t ≡ x → (name : Name) (l : Lookup) → lookupOf l ≡ lookup (tableTree t .nodes) name (t .counts .nodes) → lookupOf l ≡ nodeNamed x name

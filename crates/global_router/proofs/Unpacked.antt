@@ -10,7 +10,7 @@ use Rattle.tree.specs.Limits.{mostNodes, noNode}
 use Rattle.tree.specs.Tree.{Node, at, nodeAt, blank}
 use Rattle.tree.specs.WellFormed.{WellFormed}
 use Rattle.tree.proofs.Linking.{parent-in}
-use Rattle.search.specs.Columns.{chain, Chain, Linked}
+use Rattle.search.specs.Columns.{chain, Chain, Chained}
 use Rattle.joining.specs.declared.Counts.{Counts}
 use Rattle.joining.specs.Links.{ChildrenAre}
 use Rattle.joining.specs.Store.{Rows, Columns, rowAt, columns, nodeFrom, nodeOf, nodesOf, SizedRows, Keeps}
@@ -24,7 +24,7 @@ use Rattle.global_router.specs.Stored.{treeOf, countsOf, Stored}
 use Rattle.global_router.proofs.Packed.{upto-same}
 
 -- ---- columns whose chains end keep the nodes that are read in them
-module _ (c : Columns) (n : ℕ) (chains : (p : ℕ) → p < n → Linked (c .prev) (getD (c .last) p 0)) where
+module _ (c : Columns) (n : ℕ) (chains : (p : ℕ) → p < n → Chained (c .prev) (getD (c .last) p 0)) where
   node-at : (i : ℕ) → i < length (nodesOf c n) → nodeAt (nodesOf c n) i ≡ nodeOf c i
   unfolding nodeAt
   node-at i h = getD-upto (nodeOf c) blank n i (omega (arith, length-upto (nodeOf c) n))

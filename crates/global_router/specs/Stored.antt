@@ -7,7 +7,7 @@ use Rattle.tree.specs.Limits.{across, mostNodes, noLimit}
 use Rattle.tree.specs.Tree.{Node, Tree, zeroFigure, climb}
 use Rattle.tree.specs.Memory.{nodeIn}
 use Rattle.tree.specs.WellFormed.{WellFormed}
-use Rattle.search.specs.Columns.{chain, Linked}
+use Rattle.search.specs.Columns.{chain, Chained}
 use Rattle.joining.specs.declared.Counts.{Counts}
 use Rattle.joining.specs.Links.{Links, links, LinkedBack}
 use Rattle.joining.specs.Store.{upTo}
@@ -56,4 +56,4 @@ pub record Stored (g : GlobalRoutingTree) : Type 0 where
   pub last : length (g .last) ≡ mostNodes
   pub prev : length (g .prev) ≡ mostNodes
   pub back : LinkedBack mostNodes (g .count) (linksIn g)
-  pub chains : (p : ℕ) → p < g .count → Linked (g .prev) (getD (g .last) p 0)
+  pub chains : (p : ℕ) → p < g .count → Chained (g .prev) (getD (g .last) p 0)

@@ -29,14 +29,15 @@ ghost use Rattle.job_tables.specs.Tables as J;
 ghost use Rattle.route.specs.Routing.{refused, routeOf};
 ghost use Rattle.route.specs.Demand3.{Owed};
 ghost use Rattle.tree.specs.Optimize.{optimize};
-ghost use Rattle.search.specs.Branch.{keepoutsOf};
+ghost use Rattle.tree.specs.Memory.{keepoutsOf};
 ghost use Rattle.rectangles.specs.Rectangles.{room};
+ghost use Rattle.reading.specs.Paths.{PathNamed};
 ghost use Rattle.editing.specs.Edits.{nodeNamed, insertSteinerNode, insertTerminalNode, insertNodeOnBranch, insertTerminalWithSteiner, insertTerminalWithConstraints};
 ghost use Rattle.editing.specs.Editing.{parentNameOf, kindIn};
 ghost use Rattle.global_router.specs.Stored.{treeOf, countsOf, Stored};
 ghost use Rattle.global_router.specs.Calls.{Outcomes, answerOf, newOf, Answered};
 ghost use Rattle.global_router.specs.Editing.{EditedTo, EditedBy, Finished, chosen};
-ghost use Rattle.global_router.specs.Reading.{lookedUp, PathAnswers};
+ghost use Rattle.global_router.specs.Reading.{lookedUp};
 
 // Children are links: `last` has a node's last child, `prev` and `next` the siblings before and after a node.
 pub struct GlobalRoutingTree {
@@ -91,8 +92,8 @@ fn counts_of(g: GlobalRoutingTree) -> Counts
     }
 }
 
-// The tree as columns by value, for those who read it; nobody else can make a tree of them again.
-pub fn to_table(g: GlobalRoutingTree) -> Table
+// The tree as columns by value.
+fn to_table(g: GlobalRoutingTree) -> Table
     requires { ⌜ Stored g ⌝ }
     ensures is { λ r. ⌜ tableTree r ≡ treeOf g ⌝ }
     ensures tabled { λ r. ⌜ Tabled r ⌝ }
@@ -172,7 +173,7 @@ impl GlobalRoutingTree {
         ensures { λ r. ⌜ Outcomes (newOf «source_position») r ⌝ }
     {
         if job::outside(source_position) {
-            return refused(5);
+            return refused(editing::OUTSIDE);
         }
         let t = job_tables::source_alone(source_position);
         answered(Answer::Done, t)
@@ -210,7 +211,7 @@ impl GlobalRoutingTree {
     // The path from the source to the node that has a name. Refusals: 7, no node has it; then 11.
     pub fn find_path_to_source(self, name: NodeName, out: &mut [u16]) -> output::Answer
         requires { ⌜ Stored self ⌝ }
-        ensures { λ r. ⌜ PathAnswers (treeOf self) (nameIn name) (now (out .entry)) r (now (out .exit)) ⌝ }
+        ensures { λ r. ⌜ PathNamed (treeOf self .nodes) (nameIn name) (now (out .entry)) r (now (out .exit)) ⌝ }
     {
         let t = to_table(self);
         reading::find_path(t, name, out)

@@ -1,4 +1,3 @@
 pub mod Naming
 pub mod Leaf
 pub mod Branch
-pub mod After

@@ -6,8 +6,7 @@ use native.Mathlib.Omega.{arith}
 use lib.ListN.{length}
 use lib.IntN.{ℤ}
 use Rattle.geometry.specs.declared.Point.{Point}
-use Rattle.geometry.specs.Laws.{Within}
-use Rattle.tree.specs.Limits.{mostNodes, reach}
+use Rattle.tree.specs.Limits.{mostNodes}
 use Rattle.tree.specs.Tree.{Node, Tree, terminal}
 use Rattle.tree.specs.Search as T
 use Rattle.tree.specs.Route.{closest, insertSimple, insert}
@@ -18,7 +17,7 @@ use Rattle.tree.proofs.Fitting.{find-fits}
 use Rattle.tree.specs.Edits.{attached}
 use Rattle.search.specs.declared.Query.{Query}
 use Rattle.search.specs.declared.Join.{Join}
-use Rattle.search.specs.Branch.{keepoutsOf}
+use Rattle.tree.specs.Memory.{keepoutsOf}
 use Rattle.search.specs.Find.{joinOf, Joins}
 use Rattle.search.specs.Boxes.{Covers}
 use Rattle.joining.specs.declared.Counts.{Counts}
@@ -31,28 +30,20 @@ use Rattle.joining.proofs.Growing.{stores-terminal, sized-terminal}
 use Rattle.inserting.specs.declared.Way.{Way}
 use Rattle.inserting.specs.declared.Way.the-variants.{Simple, Search}
 use Rattle.boxes.specs.Covering.{JoinedUnder}
-use Rattle.nearest_branch.specs.Summed.{Summed}
-use Rattle.inserting.specs.Insert.{Points, NearColumns, ClosestOf, InsertedSimple, QueryOf, Asked, Covered}
+use Rattle.nearest.specs.Columns.{NearPoints}
+use Rattle.nearest.specs.Closest.{ClosestOf}
+use Rattle.nearest.specs.Summed.{Summed}
+use Rattle.nearest.proofs.Closest.{near-points, closest-is}
+use Rattle.inserting.specs.Insert.{InsertedSimple, QueryOf, Asked, Covered}
 
 -- ---- at the closest node
-points-of : {t : Tree} {k : Counts} {c : Store} → Stores t k c → Points (t .nodes) (k .nodes) (c .rows .xs) (c .rows .ys)
-points-of s = record { size = s .size; points = λ i h. sym (ap (λ (n : Node). n .point) (s .keeps .rows i (omega (arith, s .size)))) }
-
 module _ {q : Point} {k : Counts} {c : Store} (v : Standing Anything 1 q k c) where
-  pub near-columns : NearColumns (k .nodes) (c .rows .xs) (c .rows .ys) q
-  near-columns =
-      record {
-        some = omega (arith, v .stores .size, v .formed .linked .some);
-        few = v .small;
-        in-xs = omega (arith, v .room);
-        in-ys = omega (arith, v .room, v .sized .rows .ys);
-        near = λ i h. subst (Within reach) (sym (points-of (v .stores) .points i h)) (v .formed .near i);
-        within = v .within;
-      }
+  pub may-find : NearPoints (k .nodes) q (c .rows .xs) (c .rows .ys)
+  may-find = near-points (v .formed) (v .stores .size) (v .stores .keeps) (v .sized .rows) (omega (arith, v .room)) (v .small) (v .within)
 
   module _ (p : ℕ) (e : ClosestOf (k .nodes) (k .nodes) (c .rows .xs) (c .rows .ys) q p) where
     is : (t : Tree) → Stores t k c → p ≡ closest (t .nodes) q (length (t .nodes))
-    is t s = e (t .nodes) (points-of s) ∙ ap (closest (t .nodes) q) (sym (s .size))
+    is t s = closest-is (s .size) (s .keeps) q e
 
     in-tree : (t : Tree) → WellFormed t → Stores t k c → p < length (t .nodes)
     in-tree t f s = subst (λ (x : ℕ). x < length (t .nodes)) (sym (is t s)) (closest-in (t .nodes) q (f .linked .some) (length (t .nodes)) (omega arith))

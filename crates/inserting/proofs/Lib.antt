@@ -1,3 +1,2 @@
 pub mod Inserting
-pub mod Nearest
 pub mod Turning

@@ -17,7 +17,7 @@ use Rattle.tree.proofs.Routing.{routed-start}
 use Rattle.tree.proofs.Fitting.{sums-inserts}
 use Rattle.tree.proofs.Forming.{formed-insert, formed-simple, formed-start, counted-insert, counted-simple, counted-start}
 use Rattle.search.specs.declared.Query.{Query}
-use Rattle.search.specs.Branch.{keepoutsOf}
+use Rattle.tree.specs.Memory.{keepoutsOf}
 use Rattle.search.specs.Walk.{pointAt}
 use Rattle.search.specs.Columns.{Chain}
 use Rattle.search.specs.Boxes.{Covers}

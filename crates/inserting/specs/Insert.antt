@@ -1,20 +1,14 @@
 -- The two ways to insert a terminal, on columns.
-use Prim.Native.Nat.{ℕ, _+_, _*_, _≤_, _<_}
 use mathlib.Core.Path.{_≡_}
 use mathlib.Core.List.{List}
-use lib.ListN.{length}
 use lib.IntN.{ℤ}
 use Rattle.geometry.specs.declared.Point.{Point}
-use Rattle.geometry.specs.Geometry.{dist}
-use Rattle.geometry.specs.Laws.{Within}
-use Rattle.tree.specs.Limits.{reach, mostNodes}
-use Rattle.tree.specs.Tree.{Node, Tree, nodeAt}
-use Rattle.tree.specs.Route.{closest, insert, insertSimple}
+use Rattle.tree.specs.Tree.{Tree}
+use Rattle.tree.specs.Route.{insert, insertSimple}
 use Rattle.tree.specs.Shape.{PathSums}
 use Rattle.tree.specs.WellFormed.{WellFormed}
 use Rattle.search.specs.declared.Query.{Query}
-use Rattle.search.specs.Branch.{keepoutsOf}
-use Rattle.search.specs.Walk.{pointAt}
+use Rattle.tree.specs.Memory.{keepoutsOf}
 use Rattle.search.specs.Boxes.{Covers}
 use Rattle.joining.specs.declared.Counts.{Counts}
 use Rattle.joining.specs.Store.{Store}
@@ -22,33 +16,7 @@ use Rattle.joining.specs.Standing.{Stores, Grows, Anything}
 use Rattle.inserting.specs.declared.Way.{Way}
 use Rattle.inserting.specs.declared.Way.the-variants.{Simple, Search}
 
--- ---- the closest node
--- n nodes whose points stand in columns
-pub record Points (ns : List Node) (n : ℕ) (xs ys : List ℤ) : Type 0 where
-  pub size : length ns ≡ n
-  pub points : (i : ℕ) → i < n → pointAt xs ys i ≡ nodeAt ns i .point
-
--- more than the highest index of a node
-abbrev pub indices : ℕ
-indices = 256
-
--- node i in the order of distance to q, then of index
-abbrev pub rankOf : List ℤ → List ℤ → Point → ℕ → ℕ
-rankOf xs ys q i = dist (pointAt xs ys i) q * indices + i
-
--- the points of n nodes, one at least, and q are within the limit
-pub record NearColumns (n : ℕ) (xs ys : List ℤ) (q : Point) : Type 0 where
-  pub some : 0 < n
-  pub few : n ≤ mostNodes
-  pub in-xs : n ≤ length xs
-  pub in-ys : n ≤ length ys
-  pub near : (i : ℕ) → i < n → Within reach (pointAt xs ys i)
-  pub within : Within reach q
-
--- r is the closest to q of the first i nodes, whatever nodes the points belong to
-abbrev pub ClosestOf : ℕ → ℕ → List ℤ → List ℤ → Point → ℕ → Type 0
-ClosestOf i n xs ys q r = (ns : List Node) → Points ns n xs ys → r ≡ closest ns q i
-
+-- ---- at the closest node
 -- a terminal at q has joined the closest node
 abbrev pub InsertedSimple : Point → Counts → Store → Counts → Store → Type 0
 InsertedSimple q = Grows Anything (λ t. insertSimple t q)

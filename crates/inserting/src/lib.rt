@@ -2,22 +2,21 @@
 use geometry::Point;
 use joining::Counts;
 use joining::Row;
-use nearest_branch::find_join;
+use nearest::find_join;
+use nearest::find_nearest_node;
 use search::Query;
 use tree::NodeIndex;
 use tree::SteinerNumber;
 use tree::TerminalNumber;
 ghost use mathlib.Core.Path.{_≡_};
-ghost use Prim.Native.Nat.{ℕ, _<_, min};
+ghost use Prim.Native.Nat.{_<_};
 ghost use lib.ListN.{length, set};
-ghost use Rattle.geometry.specs.Laws.{Within};
-ghost use Rattle.tree.specs.Limits.{reach, noNode};
-ghost use Rattle.search.specs.Walk.{pointAt};
+ghost use Rattle.tree.specs.Limits.{noNode};
 ghost use Rattle.joining.specs.Links.{links};
 ghost use Rattle.joining.specs.Store.{rowsOf, store, setRow, SizedRows};
 ghost use Rattle.joining.specs.Standing.{Standing, Anything};
 ghost use Rattle.boxes.specs.Covering.{Room};
-ghost use Rattle.inserting.specs.Insert.{indices, rankOf, NearColumns, ClosestOf, InsertedSimple, Asked, Covered};
+ghost use Rattle.inserting.specs.Insert.{InsertedSimple, Asked, Covered};
 ghost use Rattle.inserting.specs.Route.{sourceRow, queryAt, Routable, Routed};
 
 // How a terminal finds its place: at the closest node, or by the search.
@@ -31,44 +30,8 @@ const UNMEASURED: u32 = 0;
 
 // ---- one terminal
 
-// More than the highest index.
-const INDICES: u32 = 256;
-
-// Node i in the order of distance to q, then of index: one number, which loses neither.
-fn rank<'a>(xs: &'a [i32], ys: &'a [i32], i: usize, q: Point) -> u32
-    requires { ⌜ (i < length (now xs)) × (i < length (now ys)) ⌝ }
-    requires { ⌜ (i < indices) × Within reach (pointAt (now xs) (now ys) i) × Within reach q ⌝ }
-    ensures { λ r. ⌜ r ≡ rankOf (now (xs .entry)) (now (ys .entry)) q i ⌝ }
-{
-    let x = geometry::min_dist(xs[i], q.xcoord);
-    let y = geometry::min_dist(ys[i], q.ycoord);
-    (x + y) * INDICES + (i as u32)
-}
-
-fn lesser(a: u32, b: u32) -> u32
-    ensures { λ r. ⌜ r ≡ min a b ⌝ }
-{
-    if b < a { b } else { a }
-}
-
-// The node of least distance to q among the first n, the lowest index on ties.
-pub fn find_nearest_node<'a>(xs: &'a [i32], ys: &'a [i32], n: u16, q: Point) -> NodeIndex
-    requires { ⌜ NearColumns n (now xs) (now ys) q ⌝ }
-    ensures { λ r. ⌜ ClosestOf n n (now (xs .entry)) (now (ys .entry)) q (r .0) ⌝ }
-{
-    let m = search::wide(n);
-    let mut best = rank(xs, ys, 0, q);
-    let mut i: usize = 1;
-    while i < m {
-        let r = rank(xs, ys, i, q);
-        best = lesser(best, r);
-        i = i + 1;
-    }
-    NodeIndex((best % INDICES) as u16)
-}
-
 // A terminal at q joins the closest node; its path length stays 0.
-pub fn insert_simple(
+fn insert_simple(
     xs: &mut [i32],
     ys: &mut [i32],
     path: &mut [u32],
@@ -98,7 +61,7 @@ pub fn insert_simple(
 }
 
 // The next terminal joins, by one way or the other. The boxes are read and kept by the search alone.
-pub fn insert_terminal(
+fn insert_terminal(
     xs: &mut [i32],
     ys: &mut [i32],
     path: &mut [u32],

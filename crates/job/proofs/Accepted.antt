@@ -1,4 +1,4 @@
--- What an accepted job has (`Accepted`), and what a caller of `read_job` has by the answer that it finds.
+-- What an accepted job has (`Accepted`), as a list and in memory.
 -- The idea: where no test refuses, each test's negation holds, of every terminal and keepout.
 use mathlib.Core.Path.{_≡_, refl, sym, ap, subst, _∙_}
 use mathlib.Core.Bool.{true, false, _&&_}
@@ -17,14 +17,12 @@ use Rattle.geometry.specs.Signed.{and-left, and-right, no-way}
 use Rattle.geometry.specs.Laws.{Within}
 use Rattle.tree.specs.Limits.{reach, mostTerminals}
 use Rattle.tree.specs.Search.{anyOf}
-use Rattle.job.specs.Job.{Job, refused, accepted, coordinates, outside, invalidKeepout, terminalsOf, sourceOf, jobOf, readJob}
-use Rattle.job.specs.Reading.{filled, packed, unpacked, readingOf, answerOf, numberOf}
+use Rattle.job.specs.Job.{Job, accepted, coordinates, outside, invalidKeepout, terminalsOf, sourceOf, jobOf, readJob}
+use Rattle.job.specs.Reading.{filled, packed, numberOf}
 use Rattle.job.specs.Accepted.{Valid, Accepted, AcceptedInMemory}
-use Rattle.job.specs.declared.Reading.{Reading}
-use Rattle.job.specs.declared.ReadAnswer.the-variants as answers
 use Rattle.job.proofs.Any.{or-no, none-of}
 use Rattle.job.proofs.Verdict.{passed, few-of}
-use Rattle.job.proofs.Packing.{map-length, terminals-length, keepouts-length, answer-back}
+use Rattle.job.proofs.Packing.{map-length, terminals-length, keepouts-length}
 
 -- ---- one point, one keepout
 near : (M : ℕ) (z : ℤ) → inside (record { lb = negℤ (pos M); ub = pos M }) z ≡ true → natAbs z ≤ M
@@ -96,25 +94,3 @@ in-memory j a =
           let w = a .terminals (member (j .terminals) i h) in
           record { xcoord = rw x (w .xcoord); ycoord = rw y (w .ycoord) };
     }
-
--- ---- what a caller has, by the answer that it finds
-module _ (b : List ℕ) {r : Reading} (e : r ≡ readingOf (readJob b)) where
-  -- the answer's case gives the definition's answer
-  read-is : readJob b ≡ answerOf (r .answer) (r .job)
-  read-is = sym (answer-back (readJob b)) ∙ (λ i. answerOf (sym e i .answer) (sym e i .job))
-
-  pub turned-away : {n : ℕ} → r .answer ≡ answers.Refused n → readJob b ≡ refused n
-  turned-away h = read-is ∙ (λ i. answerOf (h i) (r .job))
-
-  pub record Taken : Type 0 where
-    pub read : readJob b ≡ accepted (unpacked (r .job))
-    pub job : r .job ≡ packed (unpacked (r .job))
-    pub sound : Accepted (unpacked (r .job))
-    pub memory : AcceptedInMemory (r .job)
-
-  pub taken : r .answer ≡ answers.Accepted → Taken
-  taken h =
-      let p : readJob b ≡ accepted (unpacked (r .job)) = read-is ∙ (λ i. answerOf (h i) (r .job)) in
-      let q : r .job ≡ packed (unpacked (r .job)) = λ i. (e ∙ ap readingOf p) i .job in
-      let a : Accepted (unpacked (r .job)) = accepted-job b p in
-      record { read = p; job = q; sound = a; memory = subst AcceptedInMemory (sym q) (in-memory _ a) }

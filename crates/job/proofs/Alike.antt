@@ -9,7 +9,7 @@ use Rattle.geometry.specs.declared.Point.{Point}
 use Rattle.tree.specs.Search.{anyOf}
 use Rattle.tree.specs.Route.{SameTerminals}
 use Rattle.tree.proofs.Order.{same-fold}
-use Rattle.job.specs.Job.{Answer, refused, accepted, nonzero, outside, invalidKeepout, wrongMode, farOut, badKeepout, jobOf, readJob, terminalsOf, keepoutsOf, modeOf}
+use Rattle.job.specs.Job.{Answer, refused, accepted, nonzero, outside, invalidKeepout, wrongMode, farOut, badKeepout, jobOf, readJob, terminalsOf, keepoutsIn, modeOf}
 use Rattle.job.specs.Alike.{PassesTo3, AlikeButOrder, SameReading}
 use Rattle.job.proofs.Any.{any-members}
 use Rattle.job.proofs.Verdict.{pass, from-4}
@@ -47,7 +47,7 @@ module _ (a b : List ℕ) (h : AlikeButOrder a b) where
   far-test = λ i. outside (h .source i) || any-often outside (terminalsOf a) (terminalsOf b) (h .terminals) i
 
   keepout-test : badKeepout a ≡ badKeepout b
-  keepout-test = any-members invalidKeepout (keepoutsOf a) (keepoutsOf b) (λ k m. h .keepouts .there m) (λ k m. h .keepouts .back m)
+  keepout-test = any-members invalidKeepout (keepoutsIn a) (keepoutsIn b) (λ k m. h .keepouts .there m) (λ k m. h .keepouts .back m)
 
   -- the tests from 4 on, by what they say
   abbrev tests : List ℕ → Bool → Bool → Bool → Answer

@@ -10,9 +10,10 @@ use lib.IntN.{ℤ, pos}
 use Rattle.geometry.specs.declared.Point.{Point}
 use Rattle.geometry.specs.declared.Rectangle.{Rectangle}
 use Rattle.wire.specs.Fields.{int32}
+use Rattle.tree.specs.Memory.{keepoutsOf}
 use Rattle.job.specs.Layout.{row, headerSize, terminalSize, keepoutSize, keepoutsAt}
-use Rattle.job.specs.Job.{Job, Answer, refused, accepted, pointAt, rectangleAt, terminalCount, keepoutCount, terminalsOf, keepoutsOf}
-use Rattle.job.specs.Reading.{filled, xcoords, ycoords, flat, pointsOf, rectanglesOf, packed, unpacked, readingOf, answerOf}
+use Rattle.job.specs.Job.{Job, pointAt, rectangleAt, terminalCount, keepoutCount, terminalsOf, keepoutsIn}
+use Rattle.job.specs.Reading.{filled, xcoords, ycoords, flat, pointsOf, packed, unpacked}
 use Rattle.job.proofs.Row.{row-length, row-map, row-shift}
 
 -- ---- what the code reads
@@ -32,7 +33,7 @@ module _ (b : List ℕ) where
   pub terminals-length : length (terminalsOf b) ≡ terminalCount b
   terminals-length = row-length (pointAt b) terminalSize headerSize (terminalCount b)
 
-  pub keepouts-length : length (keepoutsOf b) ≡ keepoutCount b
+  pub keepouts-length : length (keepoutsIn b) ≡ keepoutCount b
   keepouts-length = row-length (rectangleAt b) keepoutSize (keepoutsAt (terminalCount b)) (keepoutCount b)
 
   pub xs-read : row (int32 b) terminalSize headerSize (terminalCount b) ≡ xcoords (terminalsOf b)
@@ -54,7 +55,7 @@ module _ (b : List ℕ) where
       ap (row (int32 b) 4 at) four
       ∙ (λ i. int32 b at ∷ int32 b (at + 4) ∷ int32 b (e8 i) ∷ int32 b (e12 i) ∷ (ap (λ (k : ℕ). row (int32 b) 4 k (4 * n)) e16 ∙ flat-read (at + 16) n) i)
 
-  pub keepouts-read : row (int32 b) 4 (keepoutsAt (terminalCount b)) (4 * keepoutCount b) ≡ flat (keepoutsOf b)
+  pub keepouts-read : row (int32 b) 4 (keepoutsAt (terminalCount b)) (4 * keepoutCount b) ≡ flat (keepoutsIn b)
   keepouts-read = flat-read (keepoutsAt (terminalCount b)) (keepoutCount b)
 
 -- ---- the job again, from what stands in memory
@@ -63,8 +64,8 @@ unfolding pointsOf
 points-back [] = refl
 points-back (p ∷ ps) = ap (λ (r : List Point). p ∷ r) (points-back ps)
 
-rectangles-back : (ks : List Rectangle) → rectanglesOf (flat ks) ≡ ks
-unfolding flat rectanglesOf
+rectangles-back : (ks : List Rectangle) → keepoutsOf (flat ks) ≡ ks
+unfolding flat keepoutsOf
 rectangles-back [] = refl
 rectangles-back (k ∷ ks) = ap (λ (r : List Rectangle). k ∷ r) (rectangles-back ks)
 
@@ -96,11 +97,7 @@ module _ (j : Job) where
   terminals-back = (λ i. pointsOf (xs-back i) (ys-back i)) ∙ points-back (j .terminals)
 
   pub keepouts-back : unpacked (packed j) .keepouts ≡ j .keepouts
-  keepouts-back = ap rectanglesOf flat-back ∙ rectangles-back (j .keepouts)
+  keepouts-back = ap keepoutsOf flat-back ∙ rectangles-back (j .keepouts)
 
   pub job-back : unpacked (packed j) ≡ j
   job-back = λ i. record { mode = j .mode; source = j .source; terminals = terminals-back i; keepouts = keepouts-back i }
-
-pub answer-back : (a : Answer) → answerOf (readingOf a .answer) (readingOf a .job) ≡ a
-answer-back (refused n) = refl
-answer-back (accepted j) = ap accepted (job-back j)

@@ -5,7 +5,7 @@ use mathlib.Core.Bool.{false}
 use mathlib.Core.List.{List}
 use Prim.Native.Nat.{ℕ}
 use Rattle.tree.specs.Route.{SameTerminals, SameKeepouts}
-use Rattle.job.specs.Job.{Job, Answer, refused, accepted, short, tooMany, wrongLength, wrongOffset, modeByte, spareBytes, multiplierBits, sourceOf, terminalsOf, keepoutsOf}
+use Rattle.job.specs.Job.{Job, Answer, refused, accepted, short, tooMany, wrongLength, wrongOffset, modeByte, spareBytes, multiplierBits, sourceOf, terminalsOf, keepoutsIn}
 
 -- "pass tests 1 to 3"
 pub record PassesTo3 (b : List ℕ) : Type 0 where
@@ -24,7 +24,7 @@ pub record AlikeButOrder (a b : List ℕ) : Type 0 where
   pub multiplier : multiplierBits a ≡ multiplierBits b
   pub source : sourceOf a ≡ sourceOf b
   pub terminals : SameTerminals (terminalsOf a) (terminalsOf b)
-  pub keepouts : SameKeepouts (keepoutsOf a) (keepoutsOf b)
+  pub keepouts : SameKeepouts (keepoutsIn a) (keepoutsIn b)
 
 -- two jobs that differ in nothing but the order of terminals, and the order and repetition of keepouts
 pub record SameJobs (j k : Job) : Type 0 where

@@ -69,8 +69,8 @@ module _ (b : List ℕ) where
   abbrev pub terminalsOf : List Point
   terminalsOf = row (pointAt b) terminalSize headerSize terminalCount
 
-  abbrev pub keepoutsOf : List Rectangle
-  keepoutsOf = row (rectangleAt b) keepoutSize (keepoutsAt terminalCount) keepoutCount
+  abbrev pub keepoutsIn : List Rectangle
+  keepoutsIn = row (rectangleAt b) keepoutSize (keepoutsAt terminalCount) keepoutCount
 
 -- "The mode is read as simple, with Steiners, or with constraints and their multiplier": "0 simple, 1 Steiner points, 2 constraints"
 -- "Any 64 bits are a multiplier."
@@ -122,7 +122,7 @@ module _ (b : List ℕ) where
 
   -- 6: "a keepout interval with lower above upper. Keepout bounds are otherwise any i32."
   abbrev pub badKeepout : Bool
-  badKeepout = anyOf invalidKeepout (keepoutsOf b)
+  badKeepout = anyOf invalidKeepout (keepoutsIn b)
 
   abbrev pub jobOf : Job
   jobOf =
@@ -130,7 +130,7 @@ module _ (b : List ℕ) where
         mode = modeOf (modeByte b) (multiplierBits b);
         source = sourceOf b;
         terminals = terminalsOf b;
-        keepouts = keepoutsOf b;
+        keepouts = keepoutsIn b;
       }
 
   -- "tested in this order"

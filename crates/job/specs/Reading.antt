@@ -7,10 +7,10 @@ use Rattle.geometry.specs.declared.Point.{Point}
 use Rattle.geometry.specs.declared.Rectangle.{Rectangle}
 use Rattle.geometry.specs.Geometry.{origin}
 use Rattle.tree.specs.Limits.{mostTerminals, mostKeepouts}
+use Rattle.tree.specs.Memory.{keepoutsOf}
 use Rattle.job.specs.Job.{Job, Answer, refused, accepted}
 use Rattle.job.specs.declared.RoutingJob.{RoutingJob}
 use Rattle.job.specs.declared.Reading.{Reading}
-use Rattle.job.specs.declared.ReadAnswer.{ReadAnswer}
 use Rattle.job.specs.declared.ReadAnswer.the-variants.{Refused, Accepted}
 use Rattle.job.specs.declared.Mode.the-variants.{Simple}
 
@@ -31,15 +31,6 @@ pointsOf (x ∷ k) (y ∷ l) = record { xcoord = x; ycoord = y } ∷ pointsOf k 
 unfoldable pub flat : List Rectangle → List ℤ
 flat [] = []
 flat (k ∷ ks) = k .xcoord .lb ∷ k .xcoord .ub ∷ k .ycoord .lb ∷ k .ycoord .ub ∷ flat ks
-
--- as many as there are four numbers for
-unfoldable pub rectanglesOf : List ℤ → List Rectangle
-rectanglesOf (a ∷ b ∷ c ∷ d ∷ r) =
-    record { xcoord = record { lb = a; ub = b }; ycoord = record { lb = c; ub = d } } ∷ rectanglesOf r
-rectanglesOf [] = []
-rectanglesOf (a ∷ []) = []
-rectanglesOf (a ∷ b ∷ []) = []
-rectanglesOf (a ∷ b ∷ c ∷ []) = []
 
 -- ---- the job in memory, and back
 -- numbers, filled up with 0 to a length
@@ -64,7 +55,7 @@ unpacked r =
       mode = r .mode;
       source = r .source;
       terminals = pointsOf (take (r .«terminal_count») (r .«terminal_xs»)) (take (r .«terminal_count») (r .«terminal_ys»));
-      keepouts = rectanglesOf (take (4 * r .«keepout_count») (r .keepouts));
+      keepouts = keepoutsOf (take (4 * r .«keepout_count») (r .keepouts));
     }
 
 -- ---- the answer
@@ -76,11 +67,6 @@ noJob = record { mode = Simple; source = origin; terminals = []; keepouts = [] }
 abbrev pub readingOf : Answer → Reading
 readingOf (refused n) = record { answer = Refused n; job = packed noJob }
 readingOf (accepted j) = record { answer = Accepted; job = packed j }
-
--- each case of `ReadAnswer`, beside a job in memory
-abbrev pub answerOf : ReadAnswer → RoutingJob → Answer
-answerOf (Refused n) r = refused n
-answerOf Accepted r = accepted (unpacked r)
 
 -- the number of a refusal; 0 where there is none
 abbrev pub numberOf : Answer → ℕ

@@ -2,6 +2,7 @@
 use geometry::Interval;
 use geometry::Point;
 use geometry::Rectangle;
+use tree::KEEPOUT_BOUNDS;
 use tree::MOST_KEEPOUTS;
 use tree::MOST_TERMINALS;
 use tree::REACH;
@@ -39,7 +40,7 @@ pub struct RoutingJob {
     pub terminal_xs: [i32; MOST_TERMINALS],
     pub terminal_ys: [i32; MOST_TERMINALS],
     pub terminal_count: usize,
-    pub keepouts: [i32; 4 * MOST_KEEPOUTS],
+    pub keepouts: [i32; KEEPOUT_BOUNDS * MOST_KEEPOUTS],
     pub keepout_count: usize,
 }
 
@@ -295,12 +296,12 @@ fn terminal_column(s: &[u8], from: usize, t: usize) -> [i32; MOST_TERMINALS]
 }
 
 // The four numbers of each of k keepouts.
-fn keepout_column(s: &[u8], from: usize, k: usize) -> [i32; 4 * MOST_KEEPOUTS]
+fn keepout_column(s: &[u8], from: usize, k: usize) -> [i32; KEEPOUT_BOUNDS * MOST_KEEPOUTS]
     requires { ⌜ (k ≤ mostKeepouts) × (from < 2 ^ 32) ⌝ }
     ensures { λ r. ⌜ r ≡ filled (4 * mostKeepouts) (row (int32 (now (s .entry))) 4 from (4 * k)) ⌝ }
 {
-    let mut column = [0i32; 4 * MOST_KEEPOUTS];
-    read_column(s, from, 4, 4 * k, &mut column);
+    let mut column = [0i32; KEEPOUT_BOUNDS * MOST_KEEPOUTS];
+    read_column(s, from, 4, KEEPOUT_BOUNDS * k, &mut column);
     column
 }
 
@@ -317,7 +318,7 @@ fn no_job() -> RoutingJob
         terminal_xs: [0i32; MOST_TERMINALS],
         terminal_ys: [0i32; MOST_TERMINALS],
         terminal_count: 0,
-        keepouts: [0i32; 4 * MOST_KEEPOUTS],
+        keepouts: [0i32; KEEPOUT_BOUNDS * MOST_KEEPOUTS],
         keepout_count: 0,
     }
 }

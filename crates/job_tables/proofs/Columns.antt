@@ -6,7 +6,7 @@ use lib.ListN.{length, length-map}
 use Rattle.geometry.specs.declared.Point.{Point}
 use Rattle.geometry.specs.declared.Rectangle.{Rectangle}
 use Rattle.job.specs.Reading.{xcoords, ycoords, flat}
-use Rattle.search.specs.Branch.{keepoutsOf}
+use Rattle.tree.specs.Memory.{keepoutsOf}
 use Rattle.sorting.specs.Points.{pt, seg}
 use Rattle.route.specs.Plan.{points}
 

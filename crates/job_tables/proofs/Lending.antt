@@ -18,7 +18,7 @@ use Rattle.job.specs.Reading.{filled, xcoords, ycoords, flat, packed, unpacked}
 use Rattle.job.proofs.Packing.{filled-length, flat-length, xs-back, ys-back, flat-back}
 use Rattle.job.specs.Accepted.{AcceptedInMemory}
 use Rattle.job.proofs.Accepted.{in-memory}
-use Rattle.search.specs.Branch.{keepoutsOf}
+use Rattle.tree.specs.Memory.{keepoutsOf}
 use Rattle.sorting.specs.Points.{pt, Even}
 use Rattle.nodes.specs.declared.Table.{Table}
 use Rattle.nodes.specs.Table.{tableTree, Tabled}

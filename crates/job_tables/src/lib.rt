@@ -26,7 +26,7 @@ pub fn source_alone(s: Point) -> Table
 }
 
 // The columns of the tree of a job that was accepted.
-pub fn planned(j: RoutingJob) -> Table
+fn planned(j: RoutingJob) -> Table
     requires { ⌜ Sound j ⌝ }
     ensures is { λ r. ⌜ tableTree r ≡ treeFor (unpacked j) ⌝ }
     ensures tabled { λ r. ⌜ Tabled r ⌝ }

@@ -11,7 +11,7 @@ use lib.Seq.{getD-set-same, getD-set-other}
 use borrow.Author.Tests.{eq-eqb, ne-eqb, eqb-true, eqb-false}
 use Rattle.tree.specs.Limits.{noNode}
 use Rattle.tree.specs.Tree.{without}
-use Rattle.search.specs.Columns.{chain, Chain, Has, Away, Distinct, Linked}
+use Rattle.search.specs.Columns.{chain, Chain, Has, Away, Distinct, Chained}
 use Rattle.search.proofs.Distinct.{away-of, away-not, same-without}
 use Rattle.joining.specs.Links.{Links, links, BackedBy, Backed, beforeOf, Detached}
 use Rattle.joining.proofs.Moves.{before-in, tail-has}
@@ -137,7 +137,7 @@ module _ (prev next : List ℕ) (l c : ℕ) (cs : List ℕ) (few : length prev �
       by (x ∷ r) v w h = ap (λ (m : ℕ). getD next m 0) (sym e ∙ v .0) ∙ w .0
 
 -- ---- what the code does when c leaves is what is to be done
-module _ (l : Links) (p c i j : ℕ) (ei : i ≡ p) (ej : j ≡ c) (few : length (l .prev) ≤ noNode) (v : Linked (l .prev) (getD (l .last) p 0))
+module _ (l : Links) (p c i j : ℕ) (ei : i ≡ p) (ej : j ≡ c) (few : length (l .prev) ≤ noNode) (v : Chained (l .prev) (getD (l .last) p 0))
     (h : Has c (chain (l .prev) (getD (l .last) p 0))) (w : Backed l p) (next′ : List ℕ) (en : next′ ≡ set (l .next) (getD (l .prev) j 0) (getD (l .next) j 0)) where
   abbrev first : ℕ
   first = getD (l .last) p 0

@@ -6,7 +6,7 @@ use mathlib.Core.List.{List, [], _∷_, reverse}
 use lib.ListN.{length, getD, set}
 use lib.Dec.{eqb}
 use Rattle.tree.specs.Limits.{noNode}
-use Rattle.search.specs.Columns.{chain, Chain, Has, Linked}
+use Rattle.search.specs.Columns.{chain, Chain, Has, Chained}
 
 -- a node's last child, and the children before and after a child; noNode where there is none
 pub record Links : Type 0 where
@@ -92,6 +92,6 @@ pub record Spliceable (l : Links) (p c i s : ℕ) : Type 0 where
   pub in-c : c < length (l .last)
   pub in-i : i < length (l .last)
   pub in-s : s < length (l .last)
-  pub linked : Linked (l .prev) (getD (l .last) p 0)
+  pub linked : Chained (l .prev) (getD (l .last) p 0)
   pub has : Has c (chain (l .prev) (getD (l .last) p 0))
   pub backed : Backed l p

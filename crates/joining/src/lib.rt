@@ -11,7 +11,7 @@ ghost use Rattle.tree.specs.Limits.{noNode, reach};
 ghost use Rattle.tree.specs.WellFormed.{newNodes};
 ghost use Rattle.geometry.specs.Laws.{Within};
 ghost use Rattle.search.specs.Walk.{viewAt};
-ghost use Rattle.search.specs.Columns.{Has, Linked, chain};
+ghost use Rattle.search.specs.Columns.{Has, Chained, chain};
 ghost use Rattle.search.specs.Find.{joinOf};
 ghost use Rattle.joining.specs.Store.{rowsOf, store, setRow, SizedRows};
 ghost use Rattle.joining.specs.Links.{links, Backed, Attached, Detached, Appended, Adopted, Spliced, Spliceable};
@@ -194,7 +194,7 @@ pub fn attach_last(last: &mut [u16], prev: &mut [u16], next: &mut [u16], p: Node
 pub fn detach(last: &mut [u16], prev: &mut [u16], next: &mut [u16], p: NodeIndex, c: NodeIndex)
     requires { ⌜ length (now prev) ≤ noNode ⌝ }
     requires { ⌜ (p .0 < length (now last)) × ((c .0 < length (now prev)) × (c .0 < length (now next))) ⌝ }
-    requires { ⌜ Linked (now prev) (getD (now last) (p .0) 0) ⌝ }
+    requires { ⌜ Chained (now prev) (getD (now last) (p .0) 0) ⌝ }
     requires { ⌜ Has (c .0) (chain (now prev) (getD (now last) (p .0) 0)) ⌝ }
     requires { ⌜ Backed (links (now last) (now prev) (now next)) (p .0) ⌝ }
     ensures { λ r. ⌜ Detached (links (now (last .entry)) (now (prev .entry)) (now (next .entry))) (p .0) (c .0) (links (now (last .exit)) (now (prev .exit)) (now (next .exit))) ⌝ }
@@ -228,7 +228,7 @@ pub fn append_child(
 }
 
 // s takes c and then i, which has no children yet.
-pub fn adopt(
+fn adopt(
     last: &mut [u16],
     prev: &mut [u16],
     next: &mut [u16],
@@ -244,7 +244,7 @@ pub fn adopt(
 }
 
 // s goes between p and its child c, and i below s.
-pub fn splice(
+fn splice(
     last: &mut [u16],
     prev: &mut [u16],
     next: &mut [u16],
@@ -286,7 +286,7 @@ pub fn attach(
 }
 
 // A terminal at q joins on the branch from p to c.
-pub fn split_branch(
+fn split_branch(
     xs: &mut [i32],
     ys: &mut [i32],
     path: &mut [u32],

@@ -5,13 +5,13 @@ ghost use lib.ListN.{length};
 ghost use Rattle.tree.specs.Limits.{mostKeepouts};
 ghost use Rattle.tree.specs.Search.{anyOf};
 ghost use Rattle.job.specs.Job.{invalidKeepout};
-ghost use Rattle.search.specs.Branch.{keepoutsOf};
+ghost use Rattle.tree.specs.Memory.{keepoutsOf};
 
 // Test 2: more than an edit takes. What is left over of four numbers is no keepout.
 pub fn too_many(ks: &[i32]) -> bool
     ensures { λ r. ⌜ r ≡ ltb mostKeepouts (length (keepoutsOf (now (ks .entry)))) ⌝ }
 {
-    ks.len() >= 4 * tree::MOST_KEEPOUTS + 4
+    ks.len() >= tree::KEEPOUT_BOUNDS * tree::MOST_KEEPOUTS + tree::KEEPOUT_BOUNDS
 }
 
 // Test 6: a keepout with an interval whose lower bound is above the upper.
@@ -19,12 +19,12 @@ pub fn any_invalid(ks: &[i32]) -> bool
     ensures { λ r. ⌜ r ≡ anyOf invalidKeepout (keepoutsOf (now (ks .entry))) ⌝ }
 {
     let mut i: usize = 0;
-    while i + 4 <= ks.len() {
+    while i + tree::KEEPOUT_BOUNDS <= ks.len() {
         let k = search::keepout_at(ks, i);
         if job::invalid_keepout(k) {
             return true;
         }
-        i = i + 4;
+        i = i + tree::KEEPOUT_BOUNDS;
     }
     false
 }

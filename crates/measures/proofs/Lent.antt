@@ -13,7 +13,7 @@ use Rattle.tree.specs.Measures.{numberOf}
 use Rattle.tree.specs.Shape as Shape
 use Rattle.tree.specs.Shape.{Given}
 use Rattle.search.specs.Walk.{pointAt}
-use Rattle.search.specs.Columns.{Has, chain, Chain, Linked}
+use Rattle.search.specs.Columns.{Has, chain, Chain, Chained}
 use Rattle.search.specs.Find.{examined}
 use Rattle.joining.specs.Store.{Columns, rowAt, nodeFrom, parentFrom, nodesOf}
 use Rattle.joining.proofs.Agree.{child-of}
@@ -37,7 +37,7 @@ pub record Read (ns : List Node) (c : Columns) (n : ℕ) : Type 0 where
   pub rows : (i : ℕ) → i < n → nodeAt ns i ≡ nodeFrom (rowAt (c .rows) i) (nodeAt ns i .children)
   pub near : (i : ℕ) → i < n → Within reach (pointAt (c .rows .xs) (c .rows .ys) i)
   pub kids : (p : ℕ) → p < n → chain (c .prev) (getD (c .last) p 0) ≡ reverse (nodeAt ns p .children)
-  pub links : (p : ℕ) → p < n → Linked (c .prev) (getD (c .last) p 0)
+  pub links : (p : ℕ) → p < n → Chained (c .prev) (getD (c .last) p 0)
   pub below : (p x : ℕ) → p < n → Has x (chain (c .prev) (getD (c .last) p 0)) → x < n
   pub linked : Shape.Linked ns
   -- "a new Steiner number would pass 250" is refused, so a number is a byte

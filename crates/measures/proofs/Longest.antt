@@ -10,7 +10,7 @@ use Rattle.geometry.specs.Geometry.{dist}
 use Rattle.tree.specs.Limits.{across, noNode}
 use Rattle.tree.specs.Tree.{Node, nodeAt}
 use Rattle.tree.specs.Measures.{greatest, worstBelow, worst}
-use Rattle.search.specs.Columns.{Has, chain, Linked}
+use Rattle.search.specs.Columns.{Has, chain, Chained}
 use Rattle.search.proofs.Chains.{Unrolled, unroll, ended}
 use Rattle.joining.specs.Store.{Columns}
 use Rattle.search.specs.Walk.{pointAt}
@@ -44,7 +44,7 @@ worst-none ns (suc left) i e = absurd (omega arith)
 pub record Longest (ns : List Node) (prev : List ℕ) (n left i c best : ℕ) : Type 0 where
   pub some : left ≡ 0 → ⊥
   pub small : best ≤ across * left
-  pub links : Linked prev c
+  pub links : Chained prev c
   pub below : (x : ℕ) → Has x (chain prev c) → x < n
   pub is : max best (greatest (runBy ns left i) (chain prev c)) ≡ worstBelow ns left i
 

@@ -89,7 +89,7 @@ fn node_at<'a>(
     }
 }
 
-pub fn blank_nodes() -> [RoutingNode; tree::MOST_NODES]
+fn blank_nodes() -> [RoutingNode; tree::MOST_NODES]
     ensures { λ r. ⌜ r ≡ replicate mostNodes blankNode ⌝ }
 {
     let pt = Point {
@@ -223,7 +223,7 @@ fn same_name(a: NodeName, b: NodeName) -> bool
 }
 
 // Of the first n nodes, by the columns that have their names.
-pub fn find_named<'a>(kind: &'a [u8], number: &'a [u16], n: u16, name: NodeName) -> Lookup
+fn find_named<'a>(kind: &'a [u8], number: &'a [u16], n: u16, name: NodeName) -> Lookup
     requires { ⌜ (n ≤ length (now kind)) × (n ≤ length (now number)) ⌝ }
     ensures { λ r. ⌜ ((c : Columns) → c .rows .kind ≡ now (kind .entry) → c .rows .number ≡ now (number .entry) → lookupOf r ≡ lookup (nodesOf c n) (nameIn name) n) ⌝ }
 {

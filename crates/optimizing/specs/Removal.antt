@@ -20,20 +20,22 @@ pub record StandsIn (When : Tree → Type 0) (k : Counts) (s : Store) : Type 0 w
   pub sized : SizedStore (length (s .rows .xs)) s
   pub room : k .nodes ≤ length (s .rows .xs)
 
--- after: node i, which was lone, is gone
+-- node i is lone
 abbrev pub LoneIn : ℕ → Tree → Type 0
 LoneIn i t = lone (t .nodes) i ≡ true
 
+-- after: node i, which was lone, is gone
 abbrev pub Removed : ℕ → Counts → Store → Counts → Store → Type 0
 Removed i = Grows (LoneIn i) (λ t. withNodes t (remove i (t .nodes)))
 
--- after: node i is gone if it was lone
+-- there is a node i
 abbrev pub NodeIn : ℕ → Tree → Type 0
 NodeIn i t = i < length (t .nodes)
 
 unfoldable pub tidied : ℕ → List Node → List Node
 tidied i ns = cond (lone ns i) (remove i ns) ns
 
+-- after: node i is gone if it was lone
 abbrev pub Tidied : ℕ → Counts → Store → Counts → Store → Type 0
 Tidied i = Grows (NodeIn i) (λ t. withNodes t (tidied i (t .nodes)))
 

@@ -2,15 +2,13 @@
 use job::ReadAnswer;
 use nodes::Table;
 use output::Answer;
+use reading::LineFigures;
 ghost use mathlib.Core.Path.{_≡_};
-ghost use mathlib.Core.List.{_++_};
 ghost use lib.ListN.{length};
 ghost use Rattle.wire.specs.Puts.{Puts};
 ghost use Rattle.output.specs.Answer.{Answers};
-ghost use Rattle.tree.specs.Tree.{total};
-ghost use Rattle.tree.specs.Measures.{worst};
 ghost use Rattle.nodes.specs.Table.{tableTree, Tabled};
-ghost use Rattle.planning.specs.Output.{mostText, mostOutput, refusalLine, figuresLine, treeOutput, outputOf};
+ghost use Rattle.planning.specs.Output.{mostOutput, refusalLine, figuresLine, treeOutput, outputOf};
 
 // "the text (buffer 65,536 bytes)"
 const MOST_TEXT: usize = 65536;
@@ -34,15 +32,7 @@ pub fn put_refusal(out: &mut [u8], at: usize, n: u8) -> usize
     output::put_bytes(out, p2, b"\n")
 }
 
-// A, W, L and V of the line of figures.
-pub struct Figures {
-    pub allowed: i32,
-    pub farthest: u32,
-    pub total: u32,
-    pub worst: u32,
-}
-
-pub fn put_figures(out: &mut [u8], at: usize, f: Figures) -> usize
+pub fn put_figures(out: &mut [u8], at: usize, f: LineFigures) -> usize
     ensures { λ r. ⌜ Puts (now (out .entry)) at (figuresLine (f .allowed) (f .farthest) (f .total) (f .worst)) (now (out .exit)) r ⌝ }
 {
     let p1 = output::put_bytes(out, at, b"allowed ");
@@ -71,28 +61,11 @@ fn write_refusal(n: u8, out: &mut [u8]) -> Answer
 
 // ---- a tree in columns, and a job
 
-pub fn read_figures(t: Table) -> Figures
-    requires { ⌜ Tabled t ⌝ }
-    ensures allowed { λ r. ⌜ r .allowed ≡ tableTree t .allowed ⌝ }
-    ensures farthest { λ r. ⌜ r .farthest ≡ tableTree t .farthest ⌝ }
-    ensures total { λ r. ⌜ r .total ≡ total (tableTree t .nodes) ⌝ }
-    ensures worst { λ r. ⌜ r .worst ≡ worst (tableTree t .nodes) ⌝ }
-{
-    let total = reading::total_wirelength(t);
-    let worst = reading::worst_wirelength(t);
-    Figures {
-        allowed: t.allowed,
-        farthest: t.farthest,
-        total: total,
-        worst: worst,
-    }
-}
-
 fn write_tree(t: Table, out: &mut [u8]) -> Answer
     requires { ⌜ Tabled t ⌝ }
     ensures { λ r. ⌜ Answers (treeOutput (tableTree t)) (now (out .entry)) r (now (out .exit)) ⌝ }
 {
-    let f = read_figures(t);
+    let f = reading::read_figures(t);
     let mut text = output_buffer();
     let m = reading::put_text(t, &mut text, 0);
     if MOST_TEXT < m {

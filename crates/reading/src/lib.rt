@@ -26,8 +26,7 @@ ghost use Rattle.reading.specs.Rows.{rowsIn};
 fn size(t: Table) -> usize
     ensures { λ r. ⌜ r ≡ t .counts .nodes ⌝ }
 {
-    let k = t.counts;
-    search::wide(k.nodes)
+    search::wide(t.counts.nodes)
 }
 
 // The total: d to the parent, summed over nodes.
@@ -35,16 +34,18 @@ pub fn total_wirelength(t: Table) -> u32
     requires { ⌜ Tabled t ⌝ }
     ensures { λ r. ⌜ r ≡ total (tableTree t .nodes) ⌝ }
 {
-    let xs = t.xs;
-    let ys = t.ys;
-    let path = t.path;
-    let parent = t.parent;
-    let kind = t.kind;
-    let number = t.number;
-    let last = t.last;
-    let prev = t.prev;
     let n = size(t);
-    measures::total_wirelength(&xs, &ys, &path, &parent, &kind, &number, &last, &prev, n)
+    measures::total_wirelength(
+        &t.xs,
+        &t.ys,
+        &t.path,
+        &t.parent,
+        &t.kind,
+        &t.number,
+        &t.last,
+        &t.prev,
+        n,
+    )
 }
 
 // The worst: the longest sum from source to any leaf.
@@ -52,16 +53,43 @@ pub fn worst_wirelength(t: Table) -> u32
     requires { ⌜ Tabled t ⌝ }
     ensures { λ r. ⌜ r ≡ worst (tableTree t .nodes) ⌝ }
 {
-    let xs = t.xs;
-    let ys = t.ys;
-    let path = t.path;
-    let parent = t.parent;
-    let kind = t.kind;
-    let number = t.number;
-    let last = t.last;
-    let prev = t.prev;
     let n = size(t);
-    measures::worst_wirelength(&xs, &ys, &path, &parent, &kind, &number, &last, &prev, n)
+    measures::worst_wirelength(
+        &t.xs,
+        &t.ys,
+        &t.path,
+        &t.parent,
+        &t.kind,
+        &t.number,
+        &t.last,
+        &t.prev,
+        n,
+    )
+}
+
+// A, W, L and V of the line of figures.
+pub struct LineFigures {
+    pub allowed: i32,
+    pub farthest: u32,
+    pub total: u32,
+    pub worst: u32,
+}
+
+pub fn read_figures(t: Table) -> LineFigures
+    requires { ⌜ Tabled t ⌝ }
+    ensures allowed { λ r. ⌜ r .allowed ≡ tableTree t .allowed ⌝ }
+    ensures farthest { λ r. ⌜ r .farthest ≡ tableTree t .farthest ⌝ }
+    ensures total { λ r. ⌜ r .total ≡ total (tableTree t .nodes) ⌝ }
+    ensures worst { λ r. ⌜ r .worst ≡ worst (tableTree t .nodes) ⌝ }
+{
+    let total = total_wirelength(t);
+    let worst = worst_wirelength(t);
+    LineFigures {
+        allowed: t.allowed,
+        farthest: t.farthest,
+        total: total,
+        worst: worst,
+    }
 }
 
 // The terminals, in index order.
@@ -69,24 +97,16 @@ pub fn write_terminals(t: Table, out: &mut [u16]) -> Answer
     requires { ⌜ Tabled t ⌝ }
     ensures { λ r. ⌜ Answers (terminalNodes (tableTree t .nodes)) (now (out .entry)) r (now (out .exit)) ⌝ }
 {
-    let xs = t.xs;
-    let ys = t.ys;
-    let path = t.path;
-    let parent = t.parent;
-    let kind = t.kind;
-    let number = t.number;
-    let last = t.last;
-    let prev = t.prev;
     let n = size(t);
     lists::write_terminals(
-        &xs,
-        &ys,
-        &path,
-        &parent,
-        &kind,
-        &number,
-        &last,
-        &prev,
+        &t.xs,
+        &t.ys,
+        &t.path,
+        &t.parent,
+        &t.kind,
+        &t.number,
+        &t.last,
+        &t.prev,
         n,
         out,
     )
@@ -97,24 +117,16 @@ pub fn write_steiner_nodes(t: Table, out: &mut [u16]) -> Answer
     requires { ⌜ Tabled t ⌝ }
     ensures { λ r. ⌜ Answers (steinerNodes (tableTree t .nodes)) (now (out .entry)) r (now (out .exit)) ⌝ }
 {
-    let xs = t.xs;
-    let ys = t.ys;
-    let path = t.path;
-    let parent = t.parent;
-    let kind = t.kind;
-    let number = t.number;
-    let last = t.last;
-    let prev = t.prev;
     let n = size(t);
     lists::write_steiner_nodes(
-        &xs,
-        &ys,
-        &path,
-        &parent,
-        &kind,
-        &number,
-        &last,
-        &prev,
+        &t.xs,
+        &t.ys,
+        &t.path,
+        &t.parent,
+        &t.kind,
+        &t.number,
+        &t.last,
+        &t.prev,
         n,
         out,
     )
@@ -125,29 +137,24 @@ pub fn write_path(t: Table, i: NodeIndex, out: &mut [u16]) -> Answer
     requires { ⌜ Tabled t × (i .0 < t .counts .nodes) ⌝ }
     ensures { λ r. ⌜ Answers (pathTo (tableTree t .nodes) (i .0)) (now (out .entry)) r (now (out .exit)) ⌝ }
 {
-    let xs = t.xs;
-    let ys = t.ys;
-    let path = t.path;
-    let parent = t.parent;
-    let kind = t.kind;
-    let number = t.number;
-    let last = t.last;
-    let prev = t.prev;
     let n = size(t);
     lists::write_path(
-        &xs,
-        &ys,
-        &path,
-        &parent,
-        &kind,
-        &number,
-        &last,
-        &prev,
+        &t.xs,
+        &t.ys,
+        &t.path,
+        &t.parent,
+        &t.kind,
+        &t.number,
+        &t.last,
+        &t.prev,
         n,
         i,
         out,
     )
 }
+
+// The refusal "7: a name that no node has".
+pub const NO_SUCH_NODE: u8 = 7;
 
 // The path to the node that has a name: 7 where no node has it.
 pub fn find_path(t: Table, name: NodeName, out: &mut [u16]) -> Answer
@@ -155,7 +162,7 @@ pub fn find_path(t: Table, name: NodeName, out: &mut [u16]) -> Answer
     ensures { λ r. ⌜ PathNamed (tableTree t .nodes) (nameIn name) (now (out .entry)) r (now (out .exit)) ⌝ }
 {
     let Lookup::Found(i) = nodes::find_node(t, name) else {
-        return Answer::Refused(7);
+        return Answer::Refused(NO_SUCH_NODE);
     };
     write_path(t, i, out)
 }
@@ -165,24 +172,16 @@ pub fn write_text(t: Table, out: &mut [u8]) -> Answer
     requires { ⌜ Tabled t ⌝ }
     ensures { λ r. ⌜ Answers (textOf (tableTree t .nodes)) (now (out .entry)) r (now (out .exit)) ⌝ }
 {
-    let xs = t.xs;
-    let ys = t.ys;
-    let path = t.path;
-    let parent = t.parent;
-    let kind = t.kind;
-    let number = t.number;
-    let last = t.last;
-    let prev = t.prev;
     let n = size(t);
     text::write_text(
-        &xs,
-        &ys,
-        &path,
-        &parent,
-        &kind,
-        &number,
-        &last,
-        &prev,
+        &t.xs,
+        &t.ys,
+        &t.path,
+        &t.parent,
+        &t.kind,
+        &t.number,
+        &t.last,
+        &t.prev,
         n,
         out,
     )
@@ -193,24 +192,16 @@ pub fn put_text(t: Table, out: &mut [u8], at: usize) -> usize
     requires { ⌜ Tabled t ⌝ }
     ensures { λ r. ⌜ Puts (now (out .entry)) at (textOf (tableTree t .nodes)) (now (out .exit)) r ⌝ }
 {
-    let xs = t.xs;
-    let ys = t.ys;
-    let path = t.path;
-    let parent = t.parent;
-    let kind = t.kind;
-    let number = t.number;
-    let last = t.last;
-    let prev = t.prev;
     let n = size(t);
     text::put_text(
-        &xs,
-        &ys,
-        &path,
-        &parent,
-        &kind,
-        &number,
-        &last,
-        &prev,
+        &t.xs,
+        &t.ys,
+        &t.path,
+        &t.parent,
+        &t.kind,
+        &t.number,
+        &t.last,
+        &t.prev,
         n,
         out,
         at,
@@ -222,28 +213,21 @@ pub fn write_tree_bytes(t: Table, out: &mut [u8]) -> Answer
     requires { ⌜ Tabled t ⌝ }
     ensures { λ r. ⌜ Answers (treeBytes (tableTree t)) (now (out .entry)) r (now (out .exit)) ⌝ }
 {
+    let farthest = t.farthest;
     let f = Figures {
         allowed: t.allowed,
-        farthest: t.farthest,
+        farthest: farthest,
     };
-    let xs = t.xs;
-    let ys = t.ys;
-    let path = t.path;
-    let parent = t.parent;
-    let kind = t.kind;
-    let number = t.number;
-    let last = t.last;
-    let prev = t.prev;
     let n = size(t);
     tree_bytes::write_tree_bytes(
-        &xs,
-        &ys,
-        &path,
-        &parent,
-        &kind,
-        &number,
-        &last,
-        &prev,
+        &t.xs,
+        &t.ys,
+        &t.path,
+        &t.parent,
+        &t.kind,
+        &t.number,
+        &t.last,
+        &t.prev,
         n,
         f,
         out,
@@ -257,14 +241,8 @@ pub fn nodes_of(t: Table) -> [RoutingNode; tree::MOST_NODES]
     requires { ⌜ Tabled t ⌝ }
     ensures { λ r. ⌜ Packs (tableColumns t .rows) (t .counts .nodes) r ⌝ }
 {
-    let xs = t.xs;
-    let ys = t.ys;
-    let path = t.path;
-    let parent = t.parent;
-    let kind = t.kind;
-    let number = t.number;
     let n = size(t);
-    nodes::pack(&xs, &ys, &path, &parent, &kind, &number, n)
+    nodes::pack(&t.xs, &t.ys, &t.path, &t.parent, &t.kind, &t.number, n)
 }
 
 // The columns that nodes fill.

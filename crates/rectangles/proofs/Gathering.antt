@@ -13,7 +13,7 @@ use lib.Seq.{sets, sets-eq, length-sets, take-all, take-at, take-append-le, leng
 use borrow.Author.Tests.{lt-ltb, ltb-true, ltb-false}
 use Rattle.geometry.specs.declared.Rectangle.{Rectangle}
 use Rattle.tree.specs.Limits.{mostKeepouts}
-use Rattle.search.specs.Branch.{keepoutsOf}
+use Rattle.tree.specs.Memory.{keepoutsOf}
 use Rattle.rectangles.specs.Rectangles.{room, Gathers, Adds}
 use Rattle.rectangles.specs.declared.Flat.{Flat}
 

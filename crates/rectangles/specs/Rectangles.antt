@@ -5,7 +5,7 @@ use mathlib.Core.List.{List, [], _∷_, _++_}
 use lib.ListN.{length, take}
 use Rattle.geometry.specs.declared.Rectangle.{Rectangle}
 use Rattle.tree.specs.Limits.{mostKeepouts}
-use Rattle.search.specs.Branch.{keepoutsOf}
+use Rattle.tree.specs.Memory.{keepoutsOf}
 use Rattle.rectangles.specs.declared.Flat.{Flat}
 
 -- how many there is room for: one more than an edit takes

@@ -8,7 +8,7 @@ pub const ROOM: usize = tree::MOST_KEEPOUTS + 1;
 
 // The numbers of `count` rectangles; those after them are not read.
 pub struct Flat {
-    pub bounds: [i32; 4 * ROOM],
+    pub bounds: [i32; tree::KEEPOUT_BOUNDS * ROOM],
     pub count: usize,
 }
 
@@ -22,7 +22,7 @@ fn none() -> Flat
     ensures { λ r. ⌜ Gathers [] r ⌝ }
 {
     Flat {
-        bounds: [0; 4 * ROOM],
+        bounds: [0; tree::KEEPOUT_BOUNDS * ROOM],
         count: 0,
     }
 }
@@ -35,7 +35,7 @@ fn add(f: Flat, k: Rectangle) -> Flat
     if n >= ROOM {
         return f;
     }
-    let i = 4 * n;
+    let i = tree::KEEPOUT_BOUNDS * n;
     let mut bounds = f.bounds;
     let x = k.xcoord;
     let y = k.ycoord;

@@ -8,7 +8,7 @@ use lib.ListN.{length, getD, set}
 use lib.Dec.{eqb}
 use lib.IntN.{pos}
 use Rattle.tree.specs.Limits.{noNode}
-use Rattle.search.specs.Columns.{Has, Linked, chain}
+use Rattle.search.specs.Columns.{Has, Chained, chain}
 use Rattle.joining.specs.declared.Counts.{Counts}
 use Rattle.joining.specs.Links.{Links, Attached, Detached, Backed, SizedLinks}
 use Rattle.joining.specs.Store.{Rows, Store}
@@ -31,7 +31,7 @@ pub record Bypassable (i p c : ℕ) (parent : List ℕ) (l : Links) : Type 0 whe
   pub in-i : i < length parent
   pub in-p : p < length parent
   pub in-c : c < length parent
-  pub linked : Linked (l .prev) (getD (l .last) p 0)
+  pub linked : Chained (l .prev) (getD (l .last) p 0)
   pub has : Has i (chain (l .prev) (getD (l .last) p 0))
   pub backed : Backed l p
 

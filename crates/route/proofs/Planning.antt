@@ -1,24 +1,21 @@
 -- `plan` is the definition's route: the sorted columns are the sorted terminals, and each mode's choice is what the definition has for it.
-use Prim.Native.Nat.{ℕ, zero, suc, _+_, _*_, _≤_, _<_, max}
+use Prim.Native.Nat.{ℕ, zero, suc, _+_, _≤_, _<_}
 use mathlib.Core.Path.{_≡_, refl, sym, ap, subst, _∙_}
 use mathlib.Core.List.{List, [], _∷_, _++_}
 use native.Mathlib.Omega.{arith}
 use lib.ListN.{length}
 use lib.IntN.{ℤ, pos}
 use Rattle.geometry.specs.declared.Point.{Point}
-use Rattle.geometry.specs.Geometry.{dist}
 use Rattle.geometry.specs.Laws.{Within, dist-small}
-use Rattle.tree.specs.Limits.{reach, across, mostTerminals, mostNodes, noLimit}
-use Rattle.tree.specs.Tree.{Node, Tree}
+use Rattle.tree.specs.Limits.{reach, across, mostNodes, noLimit}
+use Rattle.tree.specs.Tree.{Tree}
 use Rattle.tree.specs.Route.{inserts, rooted, sort, farthest, route}
 use Rattle.tree.specs.WellFormed.{WellFormed, Counted}
 use Rattle.job.specs.declared.Mode.{Mode}
 use Rattle.job.specs.declared.Mode.the-variants.{Simple, Steiners, Constraints}
-use Rattle.search.specs.declared.Query.{Query}
-use Rattle.search.specs.Branch.{keepoutsOf}
-use Rattle.sorting.specs.Points.{pt, seg, Even, Sorted}
+use Rattle.tree.specs.Memory.{keepoutsOf}
+use Rattle.sorting.specs.Points.{pt, seg, Sorted}
 use Rattle.sorting.proofs.Moves.{seg-append}
-use Rattle.joining.specs.declared.Counts.{Counts}
 use Rattle.joining.specs.Links.{LinkedBack}
 use Rattle.joining.specs.Store.{Store, SizedStore, Keeps, upTo}
 use Rattle.joining.proofs.Reading.{sized-columns, backed-of}

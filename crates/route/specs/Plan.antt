@@ -12,7 +12,7 @@ use Rattle.tree.specs.Route.{farthest, route}
 use Rattle.tree.specs.WellFormed.{WellFormed, Counted}
 use Rattle.job.specs.declared.Mode.{Mode}
 use Rattle.job.specs.declared.Mode.the-variants.{Simple, Steiners, Constraints}
-use Rattle.search.specs.Branch.{keepoutsOf}
+use Rattle.tree.specs.Memory.{keepoutsOf}
 use Rattle.sorting.specs.Points.{pt, seg, Even}
 use Rattle.inserting.specs.declared.Way.the-variants as W
 use Rattle.joining.specs.Links.{LinkedBack}

@@ -39,13 +39,16 @@ fn farthest<'a>(px: &'a [i32], py: &'a [i32], s: Point) -> u32
     w
 }
 
+// The allowance where there is none to keep: a fresh tree's limit.
+const ALL_ALLOWED: i32 = tree::NO_LIMIT as i32;
+
 fn choose(mode: Mode, s: Point, w: u32) -> Choice
     ensures { λ r. ⌜ r ≡ choiceOf mode s w ⌝ }
 {
     let free = Query {
         point: s,
         limit: tree::NO_LIMIT,
-        allowed: 2147483647,
+        allowed: ALL_ALLOWED,
     };
     match mode {
         Mode::Simple => Choice {

@@ -11,9 +11,8 @@ use global_router::GlobalRoutingTree;
 use global_router::Outcome;
 use nodes::Lookup;
 use output::Answer;
-use planning::Figures;
+use reading::LineFigures;
 use rectangles::Rectangles;
-use tree::NodeIndex;
 use tree::NodeName;
 use tree::SteinerNumber;
 use tree::TerminalNumber;
@@ -354,7 +353,7 @@ fn index(t: GlobalRoutingTree, record: &[u8], out: &mut [u8]) -> usize
 {
     let name = name_a(record);
     let Lookup::Found(i) = t.find_node(name) else {
-        return planning::put_refusal(out, 0, 7);
+        return planning::put_refusal(out, 0, reading::NO_SUCH_NODE);
     };
     put_word(out, b"index ", widen(i.0))
 }
@@ -387,7 +386,7 @@ fn tree_bytes(t: GlobalRoutingTree, record: &[u8], buffer: &mut [u8], out: &mut 
 fn figures(t: GlobalRoutingTree, out: &mut [u8]) -> usize
     requires { ⌜ Stored t ⌝ }
 {
-    let f = Figures {
+    let f = LineFigures {
         allowed: t.allowed(),
         farthest: t.farthest(),
         total: t.calculate_total_wirelength(),

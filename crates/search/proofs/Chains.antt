@@ -10,7 +10,7 @@ use lib.Dec.{eqb}
 use lib.Seq.{getD-set-same, getD-set-other}
 use borrow.Author.Tests.{eq-eqb, ne-eqb}
 use Rattle.tree.specs.Limits.{noNode}
-use Rattle.search.specs.Columns.{chain, Chain, Linked, stackOf, chainOf}
+use Rattle.search.specs.Columns.{chain, Chain, Chained, stackOf, chainOf}
 
 -- ---- the stack
 pub stack-keep : (st : List ℕ) (at v k : ℕ) → k ≤ at → stackOf (set st at v) k ≡ stackOf st k
@@ -49,7 +49,7 @@ chain-is (suc k) prev l (c ∷ cs) few h b =
 pub record Unrolled (prev : List ℕ) (c : ℕ) : Type 0 where
   pub here : c < length prev
   pub is : chain prev c ≡ c ∷ chain prev (getD prev c 0)
-  pub after : Linked prev (getD prev c 0)
+  pub after : Chained prev (getD prev c 0)
 
 module _ (prev : List ℕ) (c : ℕ) (few : length prev ≤ noNode) where
   by-list : (cs : List ℕ) → Chain prev c cs → length cs ≤ length prev → chain prev c ≡ cs → (c ≡ noNode → ⊥) → Unrolled prev c
@@ -63,7 +63,7 @@ module _ (prev : List ℕ) (c : ℕ) (few : length prev ≤ noNode) where
         after = record { is = subst (λ (ys : List ℕ). Chain prev (getD prev c 0) ys) (sym r) (h .1 .1) };
       }
 
-  pub unroll : Linked prev c → (c ≡ noNode → ⊥) → Unrolled prev c
+  pub unroll : Chained prev c → (c ≡ noNode → ⊥) → Unrolled prev c
   unroll v f = by-list (chain prev c) (v .is) (chain-short (length prev) prev c) refl f
 
   pub ended : c ≡ noNode → chain prev c ≡ []

@@ -13,20 +13,20 @@ use Rattle.search.specs.declared.Query.{Query}
 use Rattle.search.specs.declared.NodeView.{NodeView}
 use Rattle.search.specs.declared.Examined.{Examined}
 use Rattle.search.specs.Walk.{afterBranch}
-use Rattle.search.specs.Columns.{chain, Has, Linked, stackOf}
+use Rattle.search.specs.Columns.{chain, Has, Chained, stackOf}
 use Rattle.search.specs.Thin.{thinBranch, thinChildren, Pushes}
 use Rattle.search.proofs.Chains.{Unrolled, stack-push, ended}
 
 module _ (ks : List Rectangle) (a : Query) (view : ℕ → NodeView) (wanted : Best → ℕ → Bool) (P : NodeView) (prev : List ℕ) (first : ℕ) (b : Best) (st₀ : List ℕ) (from : ℕ) where
   pub record Turn (st : List ℕ) (found : Best) (top c : ℕ) : Type 0 where
-    pub linked : Linked prev c
+    pub linked : Chained prev c
     pub part : (x : ℕ) → Has x (chain prev c) → Has x (chain prev first)
     pub size : length st ≡ length st₀
     pub room : top + length (chain prev c) ≤ from + length (chain prev first)
     pub is : thinChildren ks a view wanted P (chain prev c) (record { found = found; stack = stackOf st top })
         ≡ thinChildren ks a view wanted P (chain prev first) (record { found = b; stack = stackOf st₀ from })
 
-  pub starts : Linked prev first → Turn st₀ b from first
+  pub starts : Chained prev first → Turn st₀ b from first
   starts h = record { linked = h; part = λ x z. z; size = refl; room = omega arith; is = refl }
 
   module _ (st : List ℕ) (found : Best) (top c : ℕ) (v : Turn st found top c) where

@@ -53,6 +53,15 @@ takes-is limit true b false best j f e d = rw e
 takes-is limit false b true best j f e d = rw e
 takes-is limit false b false best j f e d = rw (e, d)
 
+-- ---- the place on the branch from p to c where n is
+pub join-is : (ns : List Node) (p c : ℕ) (n : Point) → T.joinAt p (nodeAt ns p) c (nodeAt ns c) n ≡ joinOf (joinAt n (viewOf ns p) (viewOf ns c))
+join-is ns p c n = by (same n (nodeAt ns p .point)) (same n (nodeAt ns c .point))
+  where
+    by : (t u : Bool) → cond t (T.onto p) (cond u (T.onto c) (T.split p c)) ≡ joinOf (cond t (Onto (nodeIndex p)) (cond u (Onto (nodeIndex c)) (Split (nodeIndex p) (nodeIndex c))))
+    by true u = refl
+    by false true = refl
+    by false false = refl
+
 module _ (ks : List Rectangle) (ns : List Node) (a : Query) where
   abbrev shutter : Point → Point → Point → Point → Bool
   shutter = T.blocked ks
@@ -70,19 +79,11 @@ module _ (ks : List Rectangle) (ns : List Node) (a : Query) where
     abbrev w : Bool
     w = leZ (pos (P .path + dist (P .point) n + dist n (a .point))) (a .allowed)
 
-    join-is : T.joinAt p P c C n ≡ joinOf (joinAt n (viewOf ns p) (viewOf ns c))
-    join-is = by (same n (P .point)) (same n (C .point))
-      where
-        by : (t u : Bool) → cond t (T.onto p) (cond u (T.onto c) (T.split p c)) ≡ joinOf (cond t (Onto (nodeIndex p)) (cond u (Onto (nodeIndex c)) (Split (nodeIndex p) (nodeIndex c))))
-        by true u = refl
-        by false true = refl
-        by false false = refl
-
     judge-is : T.judge shutter ns (a .limit) (a .allowed) (a .point) p c (bestOf f) ≡ bestOf (judge a (viewOf ns p) (viewOf ns c) n f)
     unfolding T.judge judge
     judge-is =
         (λ i. cond (takes-is (a .limit) w (T.branch P C (a .point)) (f .within) (f .best) (joinOf (f .join)) f refl refl i)
-        (record { join = join-is i; best = dist n (a .point); within = w || f .within }) (bestOf f))
+        (record { join = join-is ns p c n i; best = dist n (a .point); within = w || f .within }) (bestOf f))
         ∙ by (takeIt w (dist n (a .point)) (P .path + dist (P .point) n + dist n (a .point)) (a .limit) f)
       where
         by : (t : Bool) → cond t (record { join = joinOf (joinAt n (viewOf ns p) (viewOf ns c)); best = dist n (a .point); within = w || f .within }) (bestOf f)

@@ -21,7 +21,7 @@ use Rattle.search.specs.declared.Query.{Query}
 use Rattle.search.specs.declared.NodeView.{NodeView}
 use Rattle.search.specs.declared.Judged.{Judged}
 use Rattle.search.specs.declared.Examined.{Examined}
-use Rattle.search.specs.Branch.{judge, takeIt, joinAt, pathTo, either}
+use Rattle.search.specs.Branch.{judge, takeIt, joinAt, runTo, either}
 use Rattle.search.specs.Thin.{isPast, untaken, judgedAt, judged, settled, thinBranch}
 
 -- ---- L ≤ allowed
@@ -72,13 +72,13 @@ takes-none false D L limit d b f h = rw (f .within)
 module _ (a : Query) (P C : NodeView) (n : Point) (b : Best) (d e : ℕ) (w t : Bool)
     (hd : d ≡ dist n (a .point)) (he : e ≡ dist (P .point) n) (hw : w ≡ leZ (pos (P .path + e + d)) (a .allowed))
     (ht : t ≡ takeIt w d (P .path + e + d) (a .limit) b) where
-  is-path : pathTo (a .point) P n ≡ P .path + e + d
+  is-path : runTo (a .point) P n ≡ P .path + e + d
   is-path = rw (hd, he)
 
-  is-within : leZ (pos (pathTo (a .point) P n)) (a .allowed) ≡ w
+  is-within : leZ (pos (runTo (a .point) P n)) (a .allowed) ≡ w
   is-within = ap (λ (l : ℕ). leZ (pos l) (a .allowed)) is-path ∙ sym hw
 
-  is-taken : takeIt (leZ (pos (pathTo (a .point) P n)) (a .allowed)) (dist n (a .point)) (pathTo (a .point) P n) (a .limit) b ≡ t
+  is-taken : takeIt (leZ (pos (runTo (a .point) P n)) (a .allowed)) (dist n (a .point)) (runTo (a .point) P n) (a .limit) b ≡ t
   is-taken = (λ i. takeIt (is-within i) (sym hd i) (is-path i) (a .limit) b) ∙ sym ht
 
   judge-yes : (j : Join) (v : Bool) → t ≡ true → j ≡ joinAt n P C → v ≡ either w (b .within) → record { join = j; best = d; within = v } ≡ judge a P C n b

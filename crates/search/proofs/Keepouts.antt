@@ -15,7 +15,8 @@ use Rattle.geometry.specs.Geometry.{inside, contains, covers, hull, box, blocks
 use Rattle.geometry.specs.Intervals.{covers-hull}
 use Rattle.geometry.specs.Signed.{no-way}
 use Rattle.tree.specs.Search.{anyOf}
-use Rattle.search.specs.Branch.{keepoutsOf, stopsBy, stopsBranch, besideOf, keepoutAt}
+use Rattle.tree.specs.Memory.{keepoutsOf}
+use Rattle.search.specs.Branch.{stopsBy, stopsBranch, besideOf, keepoutAt}
 
 -- ---- one keepout: the four tests in turn
 module _ (k : Rectangle) (n : Point) (a b c : Rectangle) where

@@ -3,7 +3,7 @@
 use Prim.Native.Nat.{ℕ, _≤_, _<_}
 use mathlib.Core.Path.{_≡_, refl, sym, subst}
 use mathlib.Core.Bool.{Bool, true, false, not, _&&_, _||_, cond}
-use mathlib.Core.List.{List, []}
+use mathlib.Core.List.{List}
 use native.Mathlib.Omega.{arith}
 use lib.ListN.{length, getD}
 use lib.Dec.{eqb}
@@ -19,7 +19,7 @@ use Rattle.tree.specs.Search.{nearestOn}
 use Rattle.search.specs.declared.Best.{Best}
 use Rattle.search.specs.declared.Query.{Query}
 use Rattle.search.specs.declared.NodeView.{NodeView}
-use Rattle.search.specs.Branch.{judge, isTaken, takeIt, pathTo, joinAt}
+use Rattle.search.specs.Branch.{judge, isTaken, takeIt, runTo, joinAt}
 use Rattle.search.specs.Walk.{viewAt, pointAt}
 use Rattle.search.specs.Columns.{Has, childrenOf}
 use Rattle.search.specs.Boxes.{boxAt}
@@ -32,14 +32,14 @@ use Rattle.search.proofs.Thinning.{Stills}
 module _ (a : Query) (P C : NodeView) (m : Point) (b : Best) (d : ℕ) (f : Found b d) where
   judge-same : d ≤ dist m (a .point) → judge a P C m b ≡ b
   unfolding judge
-  judge-same h = rw (takes-none (leZ (pos (pathTo (a .point) P m)) (a .allowed)) (dist m (a .point)) (pathTo (a .point) P m) (a .limit) d b f h)
+  judge-same h = rw (takes-none (leZ (pos (runTo (a .point) P m)) (a .allowed)) (dist m (a .point)) (runTo (a .point) P m) (a .limit) d b f h)
 
   -- best only falls
   judge-later : Found (judge a P C m b) d
   unfolding judge
-  judge-later = by (leZ (pos (pathTo (a .point) P m)) (a .allowed)) (isTaken a P m b) refl
+  judge-later = by (leZ (pos (runTo (a .point) P m)) (a .allowed)) (isTaken a P m b) refl
     where
-      by : (x t : Bool) → takeIt x (dist m (a .point)) (pathTo (a .point) P m) (a .limit) b ≡ t → Found (cond t (record { join = joinAt m P C; best = dist m (a .point); within = x || b .within }) b) d
+      by : (x t : Bool) → takeIt x (dist m (a .point)) (runTo (a .point) P m) (a .limit) b ≡ t → Found (cond t (record { join = joinAt m P C; best = dist m (a .point); within = x || b .within }) b) d
       by true true e = record { within = refl; near = omega (arith, f .near, ltb-true (dist m (a .point)) (b .best) (rw (f .within) at e)) }
       by false true e = no-way (rw (f .within) at e)
       by x false e = f

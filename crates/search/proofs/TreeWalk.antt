@@ -18,7 +18,8 @@ use Rattle.search.specs.declared.Best.{Best}
 use Rattle.search.specs.declared.Query.{Query}
 use Rattle.search.specs.declared.NodeView.{NodeView}
 use Rattle.search.specs.Walk.{Walk, examineChildren, viewAt, walk, start, afterBranch, nodeIndex}
-use Rattle.search.specs.Branch.{keepoutsOf, examineBranch}
+use Rattle.tree.specs.Memory.{keepoutsOf}
+use Rattle.search.specs.Branch.{examineBranch}
 use Rattle.search.specs.Columns.{Chain, Has, Distinct, childrenOf, TreeColumns, SafeOn, foundOn}
 use Rattle.search.specs.Find.{Forest, examined, joinOf, Kept, Ready, Joins, Walkable}
 use Rattle.search.specs.Boxes.{boxAt, Covers}
@@ -60,6 +61,9 @@ forest-same n children children′ alike v =
       once = λ p h. subst Distinct (alike p h) (v .once p h);
       one = λ p q c h k z w. v .one p q c h k (subst (Has c) (sym (alike p h)) z) (subst (Has c) (sym (alike q k)) w);
     }
+
+pub views-are : {ns : List Node} {xs ys : List ℤ} {path last prev : List ℕ} → Kept ns xs ys path last prev → (i : ℕ) → i < length ns → viewAt xs ys path i ≡ viewOf ns i
+views-are k i h = λ j. record { node = nodeIndex i; point = k .points i h j; path = k .paths i h j }
 
 module _ (ns : List Node) (xs ys : List ℤ) (path last prev : List ℕ) (k : Kept ns xs ys path last prev) (t : Walkable ns) where
   short : (p : ℕ) → p < length ns → length (examined ns p) ≤ length prev
@@ -105,8 +109,7 @@ module _ (ns : List Node) (xs ys : List ℤ) (path last prev : List ℕ) (k : Ke
   unfolding findIn Has
   found-is a ks =
       ap (λ (b : Best). b .join)
-      (walk-same (keepoutsOf ks) a (viewAt xs ys path) (viewOf ns) (length ns)
-      (λ i h j. record { node = nodeIndex i; point = k .points i h j; path = k .paths i h j })
+      (walk-same (keepoutsOf ks) a (viewAt xs ys path) (viewOf ns) (length ns) (views-are k)
       (childrenOf last prev) (examined ns) chains-are (λ p c h z. forest .below p c h z) (length ns) (0 ∷ []) (start a)
       (λ x h. ⊎-elim (λ (z : 0 ≡ x). subst (λ (m : ℕ). m < length ns) z (t .forest .some)) (λ (z : ⊥). absurd z) h))
 

@@ -1,7 +1,7 @@
 -- One branch: the keepouts against it, the take rule, and what is found with it. Each is a definition of tree/specs/Search on the structs of the code.
 use Prim.Native.Nat.{ℕ, _+_, _≤_}
 use mathlib.Core.Bool.{Bool, true, false, not, _&&_, _||_, cond}
-use mathlib.Core.List.{List, [], _∷_}
+use mathlib.Core.List.{List}
 use lib.ListN.{getD}
 use lib.Dec.{leb, ltb}
 use lib.IntN.{ℤ, pos}
@@ -35,14 +35,6 @@ blockedBy ks n q P C = anyOf (stopsBranch n q P C) ks
 abbrev pub besideOf : Rectangle → Point → Bool
 besideOf k n = inside (k .xcoord) (n .xcoord) || inside (k .ycoord) (n .ycoord)
 
--- the rectangles of a flat list: lower x, upper x, lower y, upper y
-unfoldable pub keepoutsOf : List ℤ → List Rectangle
-keepoutsOf (a ∷ b ∷ c ∷ d ∷ r) = record { xcoord = record { lb = a; ub = b }; ycoord = record { lb = c; ub = d } } ∷ keepoutsOf r
-keepoutsOf [] = []
-keepoutsOf (a ∷ []) = []
-keepoutsOf (a ∷ b ∷ []) = []
-keepoutsOf (a ∷ b ∷ c ∷ []) = []
-
 abbrev pub keepoutAt : List ℤ → ℕ → Rectangle
 keepoutAt l i =
     record { xcoord = record { lb = getD l i (pos 0); ub = getD l (i + 1) (pos 0) }; ycoord = record { lb = getD l (i + 2) (pos 0); ub = getD l (i + 3) (pos 0) } }
@@ -58,16 +50,16 @@ abbrev pub takeIt : Bool → ℕ → ℕ → ℕ → Best → Bool
 takeIt w D L limit b = cond w (cond (b .within) (ltb D (b .best)) true) ((not (b .within) && leb L limit) && ltb D (b .best))
 
 -- the run to q by way of n
-abbrev pub pathTo : Point → NodeView → Point → ℕ
-pathTo q P n = P .path + dist (P .point) n + dist n q
+abbrev pub runTo : Point → NodeView → Point → ℕ
+runTo q P n = P .path + dist (P .point) n + dist n q
 
 abbrev pub isTaken : Query → NodeView → Point → Best → Bool
-isTaken a P n b = takeIt (leZ (pos (pathTo (a .point) P n)) (a .allowed)) (dist n (a .point)) (pathTo (a .point) P n) (a .limit) b
+isTaken a P n b = takeIt (leZ (pos (runTo (a .point) P n)) (a .allowed)) (dist n (a .point)) (runTo (a .point) P n) (a .limit) b
 
 unfoldable pub judge : Query → NodeView → NodeView → Point → Best → Best
 judge a P C n b =
     cond (isTaken a P n b)
-    (record { join = joinAt n P C; best = dist n (a .point); within = leZ (pos (pathTo (a .point) P n)) (a .allowed) || b .within }) b
+    (record { join = joinAt n P C; best = dist n (a .point); within = leZ (pos (runTo (a .point) P n)) (a .allowed) || b .within }) b
 
 -- the branch from P to C
 unfoldable pub isBlocked : List Rectangle → Query → NodeView → NodeView → Bool

@@ -12,7 +12,7 @@ use Rattle.tree.specs.Limits.{longestPath, reach, noNode}
 use Rattle.search.specs.declared.Join.{Join}
 use Rattle.search.specs.declared.Query.{Query}
 use Rattle.search.specs.Walk.{pointAt, viewAt, walk, Safe, start}
-use Rattle.search.specs.Branch.{keepoutsOf}
+use Rattle.tree.specs.Memory.{keepoutsOf}
 
 unfoldable pub Has : ℕ → List ℕ → Type 0
 Has c [] = ⊥
@@ -43,7 +43,7 @@ unfoldable pub Chain : List ℕ → ℕ → List ℕ → Type 0
 Chain prev l [] = l ≡ noNode
 Chain prev l (c ∷ cs) = (l ≡ c) × ((l < length prev) × Chain prev (getD prev l 0) cs)
 
-pub record Linked (prev : List ℕ) (l : ℕ) : Type 0 where
+pub record Chained (prev : List ℕ) (l : ℕ) : Type 0 where
   pub is : Chain prev l (chain prev l)
 
 pub record InReach (xs ys : List ℤ) (path : List ℕ) (c : ℕ) : Type 0 where
@@ -66,7 +66,7 @@ pub record TreeColumns (n : ℕ) (a : Query) (xs ys : List ℤ) (path last prev 
   pub within : Within reach (a .point)
   pub near : (i : ℕ) → i < n → Within reach (pointAt xs ys i)
   pub long : (i : ℕ) → i < n → getD path i 0 ≤ longestPath
-  pub links : (p : ℕ) → p < n → Linked prev (getD last p 0)
+  pub links : (p : ℕ) → p < n → Chained prev (getD last p 0)
   pub below : (p c : ℕ) → p < n → Has c (childrenOf last prev p) → c < n
 
 abbrev pub SafeOn : ℕ → ℕ → Query → List ℤ → List ℤ → List ℕ → List ℕ → List ℕ → List ℤ → Type 0

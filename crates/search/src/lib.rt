@@ -13,9 +13,10 @@ ghost use Rattle.tree.specs.Limits.{reach};
 ghost use Rattle.geometry.specs.Laws.{Within};
 ghost use Rattle.geometry.specs.Geometry.{dist};
 ghost use Rattle.tree.specs.Search.{nearestOn};
-ghost use Rattle.search.specs.Branch.{takeIt, joinAt, keepoutAt, keepoutsOf, blockedBy, stopsBy, stopsBranch, besideOf, Near, either};
+ghost use Rattle.tree.specs.Memory.{keepoutsOf};
+ghost use Rattle.search.specs.Branch.{takeIt, joinAt, keepoutAt, blockedBy, stopsBy, stopsBranch, besideOf, Near, either};
 ghost use Rattle.search.specs.Walk.{pointAt, viewAt};
-ghost use Rattle.search.specs.Columns.{InReach, Linked, chain, TreeColumns, SafeOn, foundOn};
+ghost use Rattle.search.specs.Columns.{InReach, Chained, chain, TreeColumns, SafeOn, foundOn};
 ghost use Rattle.search.specs.Thin.{isPast, untaken, judgedAt, judged, settled, Boxed, boxFrom, isFar, isWanted, thinBranch, Child, NearChildren, Pushes, BoxColumns};
 ghost use Rattle.search.specs.Find.{Ready, Joins};
 
@@ -267,12 +268,12 @@ fn blocked(ks: &[i32], n: Point, q: Point, p: Point, c: Point) -> bool
     ensures { λ r. ⌜ r ≡ blockedBy (keepoutsOf (now (ks .entry))) n q p c ⌝ }
 {
     let mut i: usize = 0;
-    while i + 4 <= ks.len() {
+    while i + tree::KEEPOUT_BOUNDS <= ks.len() {
         let k = keepout_at(ks, i);
         if stops_branch(k, n, q, p, c) {
             return true;
         }
-        i = i + 4;
+        i = i + tree::KEEPOUT_BOUNDS;
     }
     false
 }
@@ -436,7 +437,7 @@ fn examine_children<'a>(
     ks: &'a [i32],
 ) -> Pushed
     requires { ⌜ NearChildren query at (now xs) (now ys) (now path) (now last) (now prev) (now lows) (now highs) (chain (now prev) first) ⌝ }
-    requires { ⌜ Linked (now prev) first ⌝ }
+    requires { ⌜ Chained (now prev) first ⌝ }
     requires { ⌜ from + length (chain (now prev) first) ≤ length (now stack) ⌝ }
     ensures { λ r. ⌜ Pushes (keepoutsOf (now (ks .entry))) query (viewAt (now (xs .entry)) (now (ys .entry)) (now (path .entry))) (isWanted query (now (last .entry)) (now (lows .entry)) (now (highs .entry))) at (chain (now (prev .entry)) first) b (now (stack .entry)) from (r .found) (now (stack .exit)) (r .top) ⌝ }
 {

@@ -16,7 +16,7 @@ ghost use Rattle.sorting.specs.Points.{pt, Even, Sorted};
 ghost use Rattle.sorting.specs.Keys.{least, part, keyOf, pointOf, Keyed, Read, passesKey, placeKey, sortKeys, AllFree, SameKeys};
 
 // No coordinate is less.
-const LEAST: i32 = -1000000;
+const LEAST: i32 = -tree::REACH;
 
 // A coordinate has 21 bits of a key.
 const PART: u64 = 2097152;

@@ -9,15 +9,15 @@ use lib.IntN.{ℤ, pos}
 use lib.Signed.{leZ}
 use Rattle.geometry.specs.declared.Point.{Point}
 use Rattle.geometry.specs.declared.Rectangle.{Rectangle}
-use Rattle.geometry.specs.Geometry.{dist, same, box, nearest}
-use Rattle.tree.specs.Tree.{Node, Tree, Parent, at, nodeAt}
-use Rattle.tree.specs.Search.{Join, onto, split, Best, Walk, branch, takes, joinAt, judge, examine, branches, walk, fresh, find, blocked}
+use Rattle.geometry.specs.Geometry.{same, box, nearest}
+use Rattle.tree.specs.Tree.{Node, Tree, at, nodeAt}
+use Rattle.tree.specs.Search.{onto, split, Best, Walk, branch, takes, joinAt, judge, examine, branches, walk, fresh, find, blocked}
 use Rattle.tree.specs.Route.{insert, inserts}
 use Rattle.tree.specs.Shape.{Linked, PathSums}
 use Rattle.tree.specs.WellFormed.{Fits}
 use Rattle.tree.proofs.Linking.{child-in, parent-in}
 use Rattle.tree.proofs.Searching.{Children, own, head-child, tail-child}
-use Rattle.tree.proofs.Routing.{Planned, linked-joined, sums-joined, named-joined}
+use Rattle.tree.proofs.Routing.{linked-joined, sums-joined}
 
 module _ (ns : List Node) (g : Linked ns) (shut : Point → Point → Point → Point → Bool) (limit : ℕ) (allowed : ℤ) (q : Point) where
   fits-at : (p c : ℕ) (n : Point) → nodeAt ns c .parent ≡ at p → Fits ns (joinAt p (nodeAt ns p) c (nodeAt ns c) n)
@@ -61,15 +61,6 @@ module _ (ns : List Node) (g : Linked ns) (shut : Point → Point → Point → 
   pub find-fits : Fits ns (find shut ns limit allowed q)
   unfolding find
   find-fits = fits-walk (length ns) (0 ∷ []) (fresh limit) (g .some)
-
-pub planned-insert : (s : Point) (ks : List Rectangle) (t : Tree) (q : Point) → Planned t → Planned (insert ks t q)
-unfolding insert
-planned-insert s ks t q r =
-    let v = find-fits (t .nodes) (r .linked) (blocked ks) (t .limit) (t .allowed) q in
-    record {
-      linked = linked-joined s (t .nodes) _ _ q (r .linked) _ v;
-      named = named-joined s (t .nodes) _ _ q (r .linked) _ v (r .named);
-    }
 
 -- terminals that are inserted leave path lengths sums
 pub sums-inserts : (ks : List Rectangle) (qs : List Point) (t : Tree) → Linked (t .nodes) → PathSums (t .nodes) → PathSums (inserts (insert ks) qs t .nodes)

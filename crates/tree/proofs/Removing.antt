@@ -182,21 +182,6 @@ module _ {ns : List Node} (g : Linked ns) {i : ℕ} (v : Lone ns i) where
   pub at-remove : (j : ℕ) → nodeAt R j ≡ closedNode i (nodeAt B (opened i j))
   at-remove j = ap (λ (ms : List Node). nodeAt ms j) remove-is ∙ at-close i B j
 
-  -- node by node
-  pub data AtRemoved (j : ℕ) : Type 0 where
-    start : opened i j ≡ p → nodeAt R j ≡ closedNode i (replaceLast i c (nodeAt ns p)) → AtRemoved j
-    end : opened i j ≡ c → nodeAt R j ≡ closedNode i (withParent p (nodeAt ns c)) → AtRemoved j
-    rest : opened i j ≢ p → opened i j ≢ c → nodeAt R j ≡ closedNode i (nodeAt ns (opened i j)) → AtRemoved j
-
-  pub at-removed : (j : ℕ) → AtRemoved j
-  unfolding bypass
-  at-removed j = by (at-bypass (opened i j))
-    where
-      by : AtTwo ns p c (replaceLast i c) (withParent p) in-p in-c c-not-p (opened i j) → AtRemoved j
-      by (first e f) = start e (at-remove j ∙ ap (closedNode i) f)
-      by (second e f) = end e (at-remove j ∙ ap (closedNode i) f)
-      by (neither d e f) = rest d e (at-remove j ∙ ap (closedNode i) f)
-
   pub length-remove : suc (length R) ≡ length ns
   unfolding bypass
   length-remove =

@@ -1,25 +1,23 @@
 -- A routed tree meets demand 3.
-use mathlib.Core.Path.{_≡_, refl, sym, ap, ap₂, subst, _∙_}
+use mathlib.Core.Path.{_≡_, refl, sym, ap, subst, _∙_}
 use mathlib.Core.Bool.{Bool, true, false, cond}
 use mathlib.Core.List.{List, [], _∷_, _++_, append-assoc, append-nil}
-use Prim.Native.Nat.{ℕ, zero, suc, _+_, _*_, _≤_, _<_, max}
+use Prim.Native.Nat.{ℕ, zero, suc, _+_, _≤_, _<_}
 use native.Mathlib.Decide.{decLt}
 use native.Mathlib.Omega.{arith}
 use lib.ListN.{length}
 use lib.Dec.{T, ltb}
 use borrow.Author.Tests.{ltb-true, ltb-false}
-use lib.IntN.{ℤ, pos}
-use lib.Signed.{leZ, _≤ℤ_}
-use Rattle.tree.specs.Limits.{noLimit}
+use lib.IntN.{ℤ}
 use Rattle.geometry.specs.declared.Point.{Point}
 use Rattle.geometry.specs.declared.Rectangle.{Rectangle}
 use Rattle.geometry.specs.Geometry.{dist}
-use Rattle.tree.specs.Tree.{Node, Tree, Name, source, terminal, steiner, Parent, none, at, nodeAt, total, sumTo, edge, climb, climbed, terminals, numbered}
-use Rattle.tree.specs.Search.{Join, onto, split, find, blocked, branch}
-use Rattle.tree.specs.Route.{newNode, attach, closest, insertSimple, joined, join, nextAfter, insert, inserts, rooted, sort, farthest, directs, route, constraints, steiners}
+use Rattle.tree.specs.Tree.{Node, Tree, terminal, none, nodeAt, total, sumTo, terminals, numbered}
+use Rattle.tree.specs.Search.{Join, onto, split, find, blocked}
+use Rattle.tree.specs.Route.{newNode, attach, closest, insertSimple, joined, nextAfter, insert, inserts, rooted, sort, farthest, directs, route, constraints, steiners}
 use Rattle.tree.specs.Shape.{Linked, PathSums, Measured, Named, Ceiling, Bounded, nameOf, count, isAt, Meets}
 use Rattle.tree.specs.WellFormed.{Fits}
-use Rattle.tree.proofs.Order.{clash, farthest-sort, directs-sort, times-sort}
+use Rattle.tree.proofs.Order.{farthest-sort, directs-sort, times-sort}
 use Rattle.tree.proofs.Nodes.{length-attach, length-split}
 use Rattle.tree.proofs.Linking.{child-in, parent-in, not-own, none-at, linked-attach, linked-split}
 use Rattle.tree.proofs.Measuring.{Core, core, core-new, core-old, core-tip, core-knot, core-rest, sums-attach, sums-split, measured-attach, measured-split, total-attach, total-split, reaches, path-is-sum}
@@ -57,11 +55,6 @@ module _ (s : Point) (ns : List Node) (st te : ℕ) (q : Point) (g : Linked ns) 
   unfolding joined
   named-joined (onto p) h d = named-adds (adds-attach ns p (tip p) h) st te (g .some) refl d
   named-joined (split p c) h d = named-split ns st te q p c g h d
-
-  pub length-joined : (j : Join) → Fits ns j → length (joined ns st te q j) ≤ suc (suc (length ns))
-  unfolding joined
-  length-joined (onto p) h = omega (arith, length-attach ns p (tip p) h)
-  length-joined (split p c) h = omega (arith, length-split ns st te q p c (parent-in g c p h) (child-in g c p h) (not-own g c p h))
 
   module _ (allowed : ℤ) (w : ℕ) where
     abbrev OK : Core → Type 0
@@ -285,7 +278,3 @@ pub planned-simples : (qs : List Point) (t : Tree) → Planned t → Planned (in
 unfolding inserts
 planned-simples [] t r = r
 planned-simples (q ∷ qs) t r = planned-simples qs (insertSimple t q) (planned-simple t q r)
-
--- mode 1, where no terminal is farther than the limit: the coordinates see to that
-pub steiner-routed : (s : Point) (ts : List Point) (ks : List Rectangle) → farthest s ts ≤ noLimit → Routed s (route steiners s ts ks)
-steiner-routed s ts ks h = routed-inserts s ks (sort s ts) _ (routed-start s _ _ _) (omega (arith, farthest-sort s ts))

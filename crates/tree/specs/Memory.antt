@@ -1,6 +1,8 @@
--- A node in memory, as the definitions' node. Definitions only.
+-- A node in memory, as the definitions' node, and keepouts as flat numbers. Definitions only.
 use Prim.Native.Nat.{ℕ}
-use mathlib.Core.List.{List}
+use mathlib.Core.List.{List, [], _∷_}
+use lib.IntN.{ℤ}
+use Rattle.geometry.specs.declared.Rectangle.{Rectangle}
 use Rattle.tree.specs.Tree as D
 use Rattle.tree.specs.declared.NodeName.{NodeName}
 use Rattle.tree.specs.declared.NodeName.the-variants.{Source, Steiner, Terminal}
@@ -29,3 +31,11 @@ nodeIn n cs =
       capacitance = n .capacitance;
       delay = n .delay;
     }
+
+-- the rectangles of a flat list: lower x, upper x, lower y, upper y; as many as there are four numbers for
+unfoldable pub keepoutsOf : List ℤ → List Rectangle
+keepoutsOf (a ∷ b ∷ c ∷ d ∷ r) = record { xcoord = record { lb = a; ub = b }; ycoord = record { lb = c; ub = d } } ∷ keepoutsOf r
+keepoutsOf [] = []
+keepoutsOf (a ∷ []) = []
+keepoutsOf (a ∷ b ∷ []) = []
+keepoutsOf (a ∷ b ∷ c ∷ []) = []

@@ -51,7 +51,7 @@ pub record Branch : Type 0 where
 
 abbrev pub branch : Node → Node → Point → Branch
 branch P C q =
-    let n = nearest (box (P .point) (C .point)) q in
+    let n = nearestOn (P .point) (C .point) q in
     record { near = n; D = dist n q; L = P .path + dist (P .point) n + dist n q }
 
 -- "If L ≤ allowed: take it when it is the first such, or D < best. Otherwise take it only when no branch has had L ≤ allowed, L ≤ tree limit and
@@ -83,7 +83,7 @@ module _ (shut : Point → Point → Point → Point → Bool) (nodes : List Nod
   examine p c e =
       let P = nodeAt nodes p .point in
       let C = nodeAt nodes c .point in
-      cond (shut q P C (nearest (box P C) q)) e (record { found = judge p c (e .found); stack = c ∷ e .stack })
+      cond (shut q P C (nearestOn P C q)) e (record { found = judge p c (e .found); stack = c ∷ e .stack })
 
   -- "Each popped node P has its children C examined last to first"
   unfoldable pub branches : ℕ → List ℕ → Walk → Walk

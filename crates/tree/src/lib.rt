@@ -8,6 +8,9 @@ pub const MOST_TERMINALS: usize = 120;
 
 pub const MOST_KEEPOUTS: usize = 64;
 
+// How many numbers a keepout has: lower x, upper x, lower y, upper y.
+pub const KEEPOUT_BOUNDS: usize = 4;
+
 pub const MOST_NODES: usize = 250;
 
 // `worst_wirelength` of a fresh tree.

@@ -13,7 +13,7 @@ use Rattle.tree.specs.Tree.{one, Node, nodeAt}
 use Rattle.tree.specs.Shape.{count}
 use Rattle.tree.specs.Measures.{placeIn, placeUnder}
 use Rattle.tree.proofs.Linking.{counted}
-use Rattle.search.specs.Columns.{Has, chain, Chain, Linked}
+use Rattle.search.specs.Columns.{Has, chain, Chain, Chained}
 use Rattle.search.proofs.Chains.{chain-is, Unrolled, unroll, ended}
 use Rattle.search.proofs.Distinct.{pigeon}
 use Rattle.search.specs.Find.{examined}
@@ -78,7 +78,7 @@ before prev i l (c ∷ cs) h k = by (eqb c i) refl k (before prev i (getD prev l
 
 -- the steps that are left from c on, of `all`
 pub record Steps (prev : List ℕ) (n all c steps : ℕ) : Type 0 where
-  pub links : Linked prev c
+  pub links : Chained prev c
   pub below : (x : ℕ) → Has x (chain prev c) → x < n
   pub is : steps + length (chain prev c) ≡ all
   pub few : all ≤ mostNodes

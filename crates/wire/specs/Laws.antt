@@ -1,14 +1,14 @@
 -- Laws of fields: what a field depends on, its parts and its bound; what is written is read again, and nothing else changes; two's complement both ways.
 -- The idea: a field is its k bytes (`le-ext`), so a law of one byte is one of every width.
 use mathlib.Core.Path.{_≡_, refl, sym, ap, _∙_}
-use mathlib.Core.Logic.{_⊎_, inl, inr, ⊎-elim}
+use mathlib.Core.Logic.{_⊎_, ⊎-elim}
 use mathlib.Core.Bool.{Bool, true, false, cond}
 use mathlib.Core.List.{List, [], _∷_, _++_, append-assoc}
 use Prim.Native.Nat.{ℕ, zero, suc, _+_, _-_, _*_, _/_, _%_, _^_, _≤_, _<_}
 use native.Mathlib.Nat.{zero-add, add-zero, suc-add, add-assoc, pow-succ', mul-assoc, mod-lt, mod-eq-of-lt, one-le-pow, div-add-mod, div-div-eq-div-mul, mod-mod-of-dvd, dvd-mul-right, add-mul-mod-self-left}
 use native.Mathlib.Omega.{arith}
-use lib.ListN.{length, take, drop, set, List·getD-eq-default, List·getD-append}
-use lib.Seq.{sets, getD-append-add, getD-set-other, length-take-le}
+use lib.ListN.{length, take, drop, List·getD-eq-default, List·getD-append}
+use lib.Seq.{getD-append-add, length-take-le}
 use lib.IntN.{ℤ, pos, negsuc, subℕ}
 use lib.Dec.{ltb}
 use borrow.Author.Tests.{lt-ltb}
@@ -122,13 +122,6 @@ le-leBytes (suc k) v h =
     let high : v / 256 < 256 ^ k = omega (arith, rw pow-succ' at h) in
     omega (arith, le-append k (v % 256 ∷ []) (leBytes k (v / 256)) 0, le-leBytes k (v / 256) high)
 
--- a run of stores changes no other byte
-sets-apart : (xs l : List ℕ) (at j : ℕ) → (j < at) ⊎ (at + length xs ≤ j) → byte (sets l at xs) j ≡ byte l j
-sets-apart [] l at j h = refl
-sets-apart (x ∷ xs) l at j h =
-    sets-apart xs (set l at x) (suc at) j (⊎-elim (λ g. inl (omega arith)) (λ g. inr (omega arith)) h)
-    ∙ getD-set-other l at j x 0 (⊎-elim (λ g e. omega arith) (λ g e. omega arith) h)
-
 module _ {l xs l′ : List ℕ} {at r : ℕ} (w : Puts l at xs l′ r) where
   -- where there is room, the bytes stand at their places
   pub puts-at : at + length xs ≤ length l → (i : ℕ) → i < length xs → byte l′ (at + i) ≡ byte xs i
@@ -136,15 +129,6 @@ module _ {l xs l′ : List ℕ} {at r : ℕ} (w : Puts l at xs l′ r) where
       let e : l′ ≡ take at l ++ (xs ++ drop (at + length xs) l) = puts-room w h .0 ∙ append-assoc (take at l) xs _ in
       let n : at ≡ length (take at l) = sym (length-take-le at l (omega arith)) in
       (λ t. byte (e t) (n t + i)) ∙ getD-append-add (take at l) _ i 0 ∙ List·getD-append xs _ 0 i g
-
-  -- the others are as before
-  pub puts-apart : (j : ℕ) → (j < at) ⊎ (at + length xs ≤ j) → byte l′ j ≡ byte l j
-  puts-apart j h = ap (λ (m : List ℕ). byte m j) (w .is) ∙ sets-apart xs l at j h
-
-  -- so a field that the write does not overlap is as before
-  pub le-apart : (k j : ℕ) → (j + k ≤ at) ⊎ (at + length xs ≤ j) → le k l′ j ≡ le k l j
-  le-apart k j h =
-      le-ext k l′ l j j (λ i g. puts-apart (j + i) (⊎-elim (λ a. inl (omega arith)) (λ a. inr (omega arith)) h))
 
 -- and where there is room, the field that was written reads as the value
 pub le-written : (k : ℕ) {l l′ : List ℕ} {at v r : ℕ} → Puts l at (leBytes k v) l′ r → at + k ≤ length l → v < 256 ^ k → le k l′ at ≡ v

@@ -99,8 +99,5 @@ module _ {l whole l′ rest : List ℕ} {at p : ℕ} (v : Left l at whole l′ p
     done = λ m r k. v .done m r (rw e (puts-then h k));
   }
 
-  pub left-as : {ys : List ℕ} → rest ≡ ys → Left l at whole l′ p ys
-  left-as e = record { small = v .small; same = v .same; low = v .low; done = λ m r k. v .done m r (puts-as k (sym e)) }
-
   pub left-none : rest ≡ [] → Puts l at whole l′ p
   left-none e = v .done l′ p (rw e (puts-none l′ p (omega (arith, v .small, v .same)) (v .low)))

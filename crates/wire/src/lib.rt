@@ -4,7 +4,8 @@
 // so one writer both measures and writes.
 ghost use mathlib.Core.Path.{_≡_};
 ghost use mathlib.Core.List.{[], _∷_};
-ghost use Prim.Native.Nat.{_+_, _-_, _*_};
+ghost use Prim.Native.Nat.{_+_, _-_, _*_, _≤_};
+ghost use lib.ListN.{length};
 ghost use Rattle.wire.specs.Fields.{byte, le16, le32, le64, int32, twos32, leBytes, int32Bytes, bits32};
 ghost use Rattle.wire.specs.Puts.{Puts, upTo};
 
@@ -66,9 +67,29 @@ pub fn u16_at(s: &[u8], at: usize) -> u16
     join8(low, high)
 }
 
+// A field that stands before the end: its bytes need no test each, and LLVM makes them one load.
+fn whole_u16(s: &[u8], at: usize) -> u16
+    requires { ⌜ 2 ≤ length (now s) - at ⌝ }
+    ensures { λ r. ⌜ r ≡ le16 (now (s .entry)) at ⌝ }
+{
+    join8(s[at], s[at + 1])
+}
+
+fn whole_u32(s: &[u8], at: usize) -> u32
+    requires { ⌜ 4 ≤ length (now s) - at ⌝ }
+    ensures { λ r. ⌜ r ≡ le32 (now (s .entry)) at ⌝ }
+{
+    let first = whole_u16(s, at);
+    let second = whole_u16(s, at + 2);
+    join16(first, second)
+}
+
 pub fn u32_at(s: &[u8], at: usize) -> u32
     ensures { λ r. ⌜ r ≡ le32 (now (s .entry)) at ⌝ }
 {
+    if 4 <= room(s.len(), at) {
+        return whole_u32(s, at);
+    }
     let low = u16_at(s, at);
     let high = u16_at(s, after(at, 2));
     join16(low, high)

@@ -2,7 +2,7 @@
 use mathlib.Core.Path.{ap, sym, _∙_}
 use Rattle.tree.specs.Tree.{Tree}
 use denote.Ref.{now}
-use Rattle.search.specs.Branch.{keepoutsOf}
+use Rattle.tree.specs.Memory.{keepoutsOf}
 use Rattle.editing.specs.Edits.{insertTerminalWithConstraints}
 use Rattle.global_router.proofs.Finishing.{edited}
 use borrow.Author.Needs.{needs}

@@ -1,12 +1,12 @@
 -- `inserting::insert_simple`: the closest node is in the tree, and a row with path 0 is attached below it.
 use native.Mathlib.Omega.{arith}
 use Rattle.joining.proofs.Placing.{next-counts}
-use Rattle.inserting.proofs.Inserting.{near-columns, may-simple, did-simple}
+use Rattle.inserting.proofs.Inserting.{may-find, may-simple, did-simple}
 use Rattle.inserting.proofs.insert_simple.Statement.{statement}
 use Rattle.inserting.proofs.insert_simple.Tie as tie
 
 find-nearest-node-requires : tie.Need-find-nearest-node-requires
-find-nearest-node-requires c κs = near-columns (c .before .before .before .before .before .before .before .before .before .pre)
+find-nearest-node-requires c κs = may-find (c .before .before .before .before .before .before .before .before .before .pre)
 
 attach-requires : tie.Need-attach-requires
 attach-requires c κs = may-simple (c .before .before .before .before .before .before .before .before .before .before .before .before .before .before .before .before .before .before .before .pre) _ (c .before .before .before .before .before .before .before .before .before .find-nearest-node .ensures)

@@ -13,38 +13,14 @@ use Rattle.reading.proofs.write_path.Tie as tie
 size-requires : tie.Need-size-requires
 size-requires c κs = search needs
 
-slice-aggregate-write-path : tie.Need-slice-aggregate-write-path
-slice-aggregate-write-path c = search needs
-
-slice-aggregate-write-path-2 : tie.Need-slice-aggregate-write-path-2
-slice-aggregate-write-path-2 c = search needs
-
-slice-aggregate-write-path-3 : tie.Need-slice-aggregate-write-path-3
-slice-aggregate-write-path-3 c = search needs
-
-slice-aggregate-write-path-4 : tie.Need-slice-aggregate-write-path-4
-slice-aggregate-write-path-4 c = search needs
-
-slice-aggregate-write-path-5 : tie.Need-slice-aggregate-write-path-5
-slice-aggregate-write-path-5 c = search needs
-
-slice-aggregate-write-path-6 : tie.Need-slice-aggregate-write-path-6
-slice-aggregate-write-path-6 c = search needs
-
-slice-aggregate-write-path-7 : tie.Need-slice-aggregate-write-path-7
-slice-aggregate-write-path-7 c = search needs
-
-slice-aggregate-write-path-8 : tie.Need-slice-aggregate-write-path-8
-slice-aggregate-write-path-8 c = search needs
-
 write-path-requires : tie.Need-write-path-requires
-write-path-requires c κs = (lends (c .before .before .before .before .before .before .before .before .before .before .before .before .before .before .before .before .before .before .before .args .t) (c .before .before .before .before .before .before .before .before .before .size .ensures) (c .before .before .before .before .before .before .before .before .before .before .before .before .before .before .before .before .before .before .before .pre .0), omega (arith, c .before .before .before .before .before .before .before .before .before .size .ensures, c .before .before .before .before .before .before .before .before .before .before .before .before .before .before .before .before .before .before .before .pre .1))
+write-path-requires c κs = (lends (c .before .before .before .before .before .before .before .before .before .before .before .before .before .before .before .before .before .before .before .before .args .t1) (c .before .before .before .before .before .before .before .before .before .before .before .before .before .before .before .before .before .before .size .ensures) (c .before .before .before .before .before .before .before .before .before .before .before .before .before .before .before .before .before .before .before .before .pre .0), omega (arith, c .before .before .before .before .before .before .before .before .before .before .before .before .before .before .before .before .before .before .size .ensures, c .before .before .before .before .before .before .before .before .before .before .before .before .before .before .before .before .before .before .before .before .pre .1))
 
 same-length : tie.Need-same-length
 same-length c = search needs
 
 returns : tie.Need-returns
-returns c = answers-of (ap (λ (ns : List Node). pathTo ns (c .before .before .before .before .before .before .before .before .before .before .before .before .before .before .before .before .before .before .before .before .before .before .args .i .0)) (nodes-of (c .before .before .before .before .before .before .before .before .before .before .before .before .before .before .before .before .before .before .before .before .before .before .args .t) (c .before .before .before .before .before .before .before .before .before .before .before .before .size .ensures))) (c .before .before .write-path .ensures)
+returns c = answers-of (ap (λ (ns : List Node). pathTo ns (c .before .before .before .before .before .before .before .before .before .before .before .before .before .before .before .before .before .before .before .before .before .before .before .args .i .0)) (nodes-of (c .before .before .before .before .before .before .before .before .before .before .before .before .before .before .before .before .before .before .before .before .before .before .before .args .t1) (c .before .before .before .before .before .before .before .before .before .before .before .before .before .before .before .before .before .before .before .before .before .size .ensures))) (c .before .before .write-path .ensures)
 
 pub write-path-spec : {M : Type 1} → statement M
-write-path-spec = tie.close (tie.spec size-requires slice-aggregate-write-path slice-aggregate-write-path-2 slice-aggregate-write-path-3 slice-aggregate-write-path-4 slice-aggregate-write-path-5 slice-aggregate-write-path-6 slice-aggregate-write-path-7 slice-aggregate-write-path-8 write-path-requires same-length returns)
+write-path-spec = tie.close (tie.spec size-requires write-path-requires same-length returns)

@@ -7,46 +7,22 @@ use borrow.Author.Needs.{needs}
 use Rattle.reading.proofs.write_tree_bytes.Statement.{statement}
 use Rattle.reading.proofs.write_tree_bytes.Tie as tie
 
-allowed-in : (s : tie.Start) → In32 (s .args .t .allowed)
+allowed-in : (s : tie.Start) → In32 (s .args .t1 .allowed)
 allowed-in s = search needs
 
 size-requires : tie.Need-size-requires
 size-requires c κs = search needs
 
-slice-aggregate-write-tree-bytes : tie.Need-slice-aggregate-write-tree-bytes
-slice-aggregate-write-tree-bytes c = search needs
-
-slice-aggregate-write-tree-bytes-2 : tie.Need-slice-aggregate-write-tree-bytes-2
-slice-aggregate-write-tree-bytes-2 c = search needs
-
-slice-aggregate-write-tree-bytes-3 : tie.Need-slice-aggregate-write-tree-bytes-3
-slice-aggregate-write-tree-bytes-3 c = search needs
-
-slice-aggregate-write-tree-bytes-4 : tie.Need-slice-aggregate-write-tree-bytes-4
-slice-aggregate-write-tree-bytes-4 c = search needs
-
-slice-aggregate-write-tree-bytes-5 : tie.Need-slice-aggregate-write-tree-bytes-5
-slice-aggregate-write-tree-bytes-5 c = search needs
-
-slice-aggregate-write-tree-bytes-6 : tie.Need-slice-aggregate-write-tree-bytes-6
-slice-aggregate-write-tree-bytes-6 c = search needs
-
-slice-aggregate-write-tree-bytes-7 : tie.Need-slice-aggregate-write-tree-bytes-7
-slice-aggregate-write-tree-bytes-7 c = search needs
-
-slice-aggregate-write-tree-bytes-8 : tie.Need-slice-aggregate-write-tree-bytes-8
-slice-aggregate-write-tree-bytes-8 c = search needs
-
 write-tree-bytes-requires : tie.Need-write-tree-bytes-requires
-write-tree-bytes-requires c κs = lends (c .before .before .before .before .before .before .before .before .before .before .before .before .before .before .before .before .before .before .before .before .args .t) (c .before .before .before .before .before .before .before .before .before .size .ensures) (c .before .before .before .before .before .before .before .before .before .before .before .before .before .before .before .before .before .before .before .before .pre)
+write-tree-bytes-requires c κs = lends (c .before .before .before .before .before .before .before .before .before .before .before .before .before .before .before .before .before .before .before .before .before .args .t1) (c .before .before .before .before .before .before .before .before .before .before .before .before .before .before .before .before .before .before .size .ensures) (c .before .before .before .before .before .before .before .before .before .before .before .before .before .before .before .before .before .before .before .before .before .pre)
 
 same-length : tie.Need-same-length
 same-length c = search needs
 
 returns : tie.Need-returns
 returns c =
-    let s = c .before .before .before .before .before .before .before .before .before .before .before .before .before .before .before .before .before .before .before .before .before .before .before in
-    answers-of (λ i. bytesOf (nodes-of (s .args .t) (c .before .before .before .before .before .before .before .before .before .before .before .before .size .ensures) i) (home (allowed-in s) i) (s .args .t .farthest)) (c .before .before .write-tree-bytes .ensures)
+    let s = c .before .before .before .before .before .before .before .before .before .before .before .before .before .before .before .before .before .before .before .before .before .before .before .before in
+    answers-of (λ i. bytesOf (nodes-of (s .args .t1) (c .before .before .before .before .before .before .before .before .before .before .before .before .before .before .before .before .before .before .before .before .before .size .ensures) i) (home (allowed-in s) i) (s .args .t1 .farthest)) (c .before .before .write-tree-bytes .ensures)
 
 pub write-tree-bytes-spec : {M : Type 1} → statement M
-write-tree-bytes-spec = tie.close (tie.spec size-requires slice-aggregate-write-tree-bytes slice-aggregate-write-tree-bytes-2 slice-aggregate-write-tree-bytes-3 slice-aggregate-write-tree-bytes-4 slice-aggregate-write-tree-bytes-5 slice-aggregate-write-tree-bytes-6 slice-aggregate-write-tree-bytes-7 slice-aggregate-write-tree-bytes-8 write-tree-bytes-requires same-length returns)
+write-tree-bytes-spec = tie.close (tie.spec size-requires write-tree-bytes-requires same-length returns)

@@ -1,6 +1,7 @@
 -- `search::examine`: each part of the branch is the definition's.
 use mathlib.Core.Path.{sym, subst}
-use Rattle.search.specs.Branch.{keepoutsOf, Near}
+use Rattle.tree.specs.Memory.{keepoutsOf}
+use Rattle.search.specs.Branch.{Near}
 use Rattle.search.specs.Walk.{viewAt}
 use Rattle.search.specs.Thin.{isWanted}
 use Rattle.search.proofs.Judging.{thin-is}

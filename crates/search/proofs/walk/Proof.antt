@@ -10,8 +10,8 @@ use Rattle.search.specs.declared.NodeView.{NodeView}
 use Rattle.search.specs.declared.Best.{Best}
 use Rattle.search.specs.declared.Join.the-variants.{Onto}
 use Rattle.search.specs.Walk.{nodeIndex, viewAt, start}
-use Rattle.search.specs.Branch.{keepoutsOf}
-use Rattle.search.specs.Columns.{Has, chain, childrenOf, Linked}
+use Rattle.tree.specs.Memory.{keepoutsOf}
+use Rattle.search.specs.Columns.{Has, chain, childrenOf, Chained}
 use Rattle.search.specs.Thin.{isWanted}
 use Rattle.search.proofs.Thinning.{Stills}
 use Rattle.search.proofs.Subtrees.{Still, stills, idle}
@@ -113,7 +113,7 @@ examine-children-requires c κs =
             };
       },
       (
-        subst (λ (i : ℕ). Linked (s .args .prev .now) (getD (s .args .last .now) i 0)) (sym w) (f .links _ (x .here)),
+        subst (λ (i : ℕ). Chained (s .args .prev .now) (getD (s .args .last .now) i 0)) (sym w) (f .links _ (x .here)),
         omega (arith, x .fits, c .before .before .before .before .before .before .loop .inv .size, ap (λ (i : ℕ). length (chain (s .args .prev .now) (getD (s .args .last .now) i 0))) w),
       ),
     )

@@ -1,7 +1,0 @@
-pub mod Filling
-pub mod Ranking
-pub mod Leasts
-pub mod Standing
-pub mod Telling
-pub mod Branches
-pub mod Joining

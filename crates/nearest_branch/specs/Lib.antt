@@ -1,4 +1,0 @@
-pub mod Summed
-pub mod Ranks
-pub mod Columns
-pub mod Sole
