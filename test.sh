@@ -16,4 +16,12 @@ if [ -z "${TMPDIR:-}" ] && in_memory; then
     TMPDIR=$memory
     export TMPDIR
 fi
+
+# rt tries a batch of checks at a time and waits for its longest: with batches of three for each processor, less of that time is idle. A check
+# takes up to 1 GB.
+if [ -z "${RT_JOBS:-}" ]; then
+    batch=$((3 * $(nproc 2>/dev/null || echo 1)))
+    free=$(awk '/^MemAvailable:/ { print int($2 / 1200000) }' /proc/meminfo 2>/dev/null)
+    [ "${free:-0}" -ge "$batch" ] && RT_JOBS=$batch && export RT_JOBS
+fi
 exec rt ci
