@@ -19,14 +19,14 @@ use Rattle.tree.specs.Shape.{Linked}
 use Rattle.tree.proofs.Linking.{child-in}
 use Rattle.tree.proofs.Searching.{own}
 use Rattle.search.specs.Columns.{Has}
-use Rattle.search.specs.Boxes.{boxAt, holds, Covers}
+use Rattle.search.specs.Boxes.{BoxRoom, boxAt, holds, Covers}
 use Rattle.joining.proofs.Agree.{has-count}
-use Rattle.boxes.specs.Covering.{pointBox, HasPoint, lowest, highest, Room, Put}
+use Rattle.boxes.specs.Covering.{pointBox, HasPoint, lowest, highest, Put}
 use Rattle.boxes.proofs.Hulls.{le-yes, point-test, box-test, own-point, own-box}
 use Rattle.boxes.proofs.Climbing.{same-boxes}
 
 -- ---- the source alone
-pub covers-source : (s : Point) (lows highs : List ℤ) → Room 1 lows highs → (b : Rectangle) → b ≡ pointBox s → (lows′ highs′ : List ℤ) → Put lows highs 0 b lows′ highs′
+pub covers-source : (s : Point) (lows highs : List ℤ) → BoxRoom 1 lows highs → (b : Rectangle) → b ≡ pointBox s → (lows′ highs′ : List ℤ) → Put lows highs 0 b lows′ highs′
     → Covers (rooted s (pos 0) 0 0 .nodes) lows′ highs′
 covers-source s lows highs room b eb lows′ highs′ r =
     record {

@@ -15,7 +15,8 @@ use Rattle.search.specs.Find.{joinOf}
 use Rattle.joining.specs.declared.Counts.{Counts}
 use Rattle.joining.specs.Store.{Store}
 use Rattle.joining.specs.Standing.{Stores, Standing, At, Joined}
-use Rattle.boxes.specs.Covering.{Room, Shown, JoinCovered, Coverable, EndsIn, JoinedUnder}
+use Rattle.search.specs.Boxes.{BoxRoom}
+use Rattle.boxes.specs.Covering.{Shown, JoinCovered, Coverable, EndsIn, JoinedUnder}
 
 shown : {t : Tree} {k : Counts} {c : Store} → Stores t k c → Shown (c .rows .xs) (c .rows .ys) (c .rows .parent) (t .nodes)
 shown s = record { points = λ i h. sym (ap (λ (n : Node). n .point) (s .keeps .rows i h)); parents = λ i h. ap (λ (n : Node). n .parent) (s .keeps .rows i h) }
@@ -25,7 +26,7 @@ most (T.onto p) = omega arith
 most (T.split p d) = omega arith
 
 module _ (j : Join) {q : Point} {k : Counts} {c : Store} (v : Standing (At j) (newNodes (joinOf j)) q k c) (r : Counts) (c′ : Store) (o : Joined j q k c r c′) (lows highs : List ℤ) where
-  pub may-cover : Room (length (c .rows .xs)) lows highs
+  pub may-cover : BoxRoom (length (c .rows .xs)) lows highs
       → Coverable (k .nodes) (newNodes (joinOf j)) (c′ .rows .xs) (c′ .rows .ys) (c′ .rows .parent) lows highs × EndsIn (k .nodes) (joinOf j)
   may-cover room =
       let z = o .sized .rows in (

@@ -24,11 +24,11 @@ use Rattle.tree.proofs.Routing.{linked-joined}
 use Rattle.search.specs.declared.Join.{Join}
 use Rattle.search.specs.declared.Join.the-variants.{Onto, Split}
 use Rattle.search.specs.Find.{joinOf}
-use Rattle.search.specs.Walk.{pointAt}
-use Rattle.search.specs.Boxes.{boxAt, Covers}
+use Rattle.tree.specs.Memory.{pointAt}
+use Rattle.search.specs.Boxes.{BoxRoom, boxAt, Covers}
 use Rattle.joining.specs.Store.{ParentsIn}
 use Rattle.joining.proofs.Agree.{count-has}
-use Rattle.boxes.specs.Covering.{pointBox, widen, HasPoint, HasBox, Room, Put, Lacks, Climbed, Shown, JoinCovered, SplitCovered, Coverable, EndsIn}
+use Rattle.boxes.specs.Covering.{pointBox, widen, HasPoint, HasBox, Put, Lacks, Climbed, Shown, JoinCovered, SplitCovered, Coverable, EndsIn}
 use Rattle.boxes.proofs.Hulls.{has-point, has-box, own-point, as-box, point-then, box-then, widen-point, widen-box, widen-least, has-nearest}
 use Rattle.boxes.proofs.Climbing.{same-boxes}
 
@@ -45,7 +45,7 @@ module _ {ns : List Node} (g : Linked ns) {lows highs : List ℤ} (v : Covers ns
 
 -- ---- below p
 module _ (ns : List Node) (g : Linked ns) (st te : ℕ) (q : Point) (p : ℕ) (h : p < length ns) (lows highs : List ℤ) (v : Covers ns lows highs)
-    (lows′ highs′ : List ℤ) (r : Put lows highs (length ns) (pointBox q) lows′ highs′) (room : Room (suc (length ns)) lows′ highs′) where
+    (lows′ highs′ : List ℤ) (r : Put lows highs (length ns) (pointBox q) lows′ highs′) (room : BoxRoom (suc (length ns)) lows′ highs′) where
   abbrev n : ℕ
   n = length ns
 
@@ -76,7 +76,7 @@ module _ (ns : List Node) (g : Linked ns) (st te : ℕ) (q : Point) (p : ℕ) (h
   unfolding joined
   lacks-leaf =
       record {
-        room = subst (λ (m : ℕ). Room m lows′ highs′) (sym (length-attach ns p leaf h)) room;
+        room = subst (λ (m : ℕ). BoxRoom m lows′ highs′) (sym (length-attach ns p leaf h)) room;
         own = own-leaf;
         below = λ a b ne l. ⊎-elim (λ s. absurd (ne (at-inj (sym l ∙ s .1)))) (λ s. kept-leaf a b (sym (s .1) ∙ l)) (parent-attach ns p leaf h g refl refl b);
         but = λ b l.
@@ -88,7 +88,7 @@ module _ (ns : List Node) (g : Linked ns) (st te : ℕ) (q : Point) (p : ℕ) (h
 module _ (ns : List Node) (g : Linked ns) (st te : ℕ) (q : Point) (p c : ℕ) (link : nodeAt ns c .parent ≡ at p) (lows highs : List ℤ) (v : Covers ns lows highs)
     (lows₁ highs₁ : List ℤ) (r : Put lows highs (length ns) (pointBox q) lows₁ highs₁) (lows′ highs′ : List ℤ)
     (r′ : Put lows₁ highs₁ (suc (length ns)) (widen (boxAt lows₁ highs₁ c) (branch (nodeAt ns p) (nodeAt ns c) q .near)) lows′ highs′)
-    (room : Room (suc (suc (length ns))) lows′ highs′) where
+    (room : BoxRoom (suc (suc (length ns))) lows′ highs′) where
   abbrev t : ℕ
   t = length ns
 
@@ -160,7 +160,7 @@ module _ (ns : List Node) (g : Linked ns) (st te : ℕ) (q : Point) (p c : ℕ) 
   pub lacks-split : Lacks M s q lows′ highs′
   lacks-split =
       record {
-        room = subst (λ (m : ℕ). Room m lows′ highs′) (sym (length-split ns st te q p c hp hc (not-own g c p link))) room;
+        room = subst (λ (m : ℕ). BoxRoom m lows′ highs′) (sym (length-split ns st te q p c hp hc (not-own g c p link))) room;
         own = own-split;
         below = below-split;
         but = but-split;
@@ -172,7 +172,7 @@ module _ (n : ℕ) (q : Point) (lows highs : List ℤ) (m : ℕ) (em : m ≡ n) 
   tip-put : (k : ℕ) → k ≡ n → Put lows highs k (pointBox q) lows₁ highs₁
   tip-put k ek = subst (λ (x : ℕ). Put lows highs x (pointBox q) lows₁ highs₁) (em ∙ sym ek) (subst (λ (x : Rectangle). Put lows highs m x lows₁ highs₁) ea r)
 
-  pub leaf-covered : (parent : List ℕ) (p : ℕ) → Room (n + 1) lows highs → (lows′ highs′ : List ℤ) → Climbed (n + 1) parent p q lows₁ highs₁ lows′ highs′
+  pub leaf-covered : (parent : List ℕ) (p : ℕ) → BoxRoom (n + 1) lows highs → (lows′ highs′ : List ℤ) → Climbed (n + 1) parent p q lows₁ highs₁ lows′ highs′
       → JoinCovered (λ ns. ParentsIn ns parent) (onto p) n q lows highs lows′ highs′
   leaf-covered parent p room lows′ highs′ o t g size fits ps v =
       let st = t .nextSteiner in
@@ -187,7 +187,7 @@ module _ (n : ℕ) (q : Point) (lows highs : List ℤ) (m : ℕ) (em : m ≡ n) 
   -- b is the Steiner node's box, about its child's and its own point
   module _ (xs ys : List ℤ) (parent : List ℕ) (c : ℕ) (i : ℕ) (ei : i ≡ c) (below : Rectangle) (eb : below ≡ boxAt lows₁ highs₁ i)
       (at-s : Point) (es : at-s ≡ pointAt xs ys (m + 1)) (b : Rectangle) (eb′ : b ≡ widen below at-s) (lows₂ highs₂ : List ℤ) (r₂ : Put lows₁ highs₁ (m + 1) b lows₂ highs₂) where
-    pub split-covered : Room (n + 2) lows highs → (lows′ highs′ : List ℤ) → Climbed (n + 2) parent (n + 1) q lows₂ highs₂ lows′ highs′
+    pub split-covered : BoxRoom (n + 2) lows highs → (lows′ highs′ : List ℤ) → Climbed (n + 2) parent (n + 1) q lows₂ highs₂ lows′ highs′
         → SplitCovered (Shown xs ys parent) c n q lows highs lows′ highs′
     split-covered room lows′ highs′ o p t g size link shown v =
         let ns = t .nodes in
@@ -207,7 +207,7 @@ module _ (n : ℕ) (q : Point) (lows highs : List ℤ) (m : ℕ) (em : m ≡ n) 
             subst (λ (x : ℕ). Put lows₁ highs₁ x (widen (boxAt lows₁ highs₁ c) N) lows₂ highs₂) ek
             (subst (λ (x : Rectangle). Put lows₁ highs₁ (m + 1) x lows₂ highs₂) (eb′ ∙ (λ j. widen ((eb ∙ ap (boxAt lows₁ highs₁) ei) j) (en j))) r₂)
 
-        roomy : Room (suc (suc (length (t .nodes)))) lows₂ highs₂
+        roomy : BoxRoom (suc (suc (length (t .nodes)))) lows₂ highs₂
         roomy =
             record {
               in-lows = omega (arith, room .in-lows, r .as-lows, r₂ .as-lows);

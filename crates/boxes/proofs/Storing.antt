@@ -8,7 +8,8 @@ use lib.ListN.{length, getD, set, length-set}
 use lib.Seq.{getD-set-same, getD-set-other}
 use lib.IntN.{ℤ, pos}
 use Rattle.geometry.specs.declared.Rectangle.{Rectangle}
-use Rattle.boxes.specs.Covering.{Room, Put}
+use Rattle.search.specs.Boxes.{BoxRoom}
+use Rattle.boxes.specs.Covering.{Put}
 
 -- two numbers of one column
 record Stored (l : List ℤ) (i : ℕ) (x y : ℤ) (l′ : List ℤ) : Type 0 where
@@ -32,7 +33,7 @@ stored l i h x y =
     else k d e = getD-set-other (set l (2 * i) x) (2 * i + 1) k y (pos 0) e ∙ getD-set-other l (2 * i) k x (pos 0) d
 
 -- both columns; the numbers are the box's
-module _ (lows highs : List ℤ) (i : ℕ) (r : Room (i + 1) lows highs) (b : Rectangle) {left right down up : ℤ} (el : left ≡ b .xcoord .lb) (er : right ≡ b .xcoord .ub) (ed : down ≡ b .ycoord .lb)
+module _ (lows highs : List ℤ) (i : ℕ) (r : BoxRoom (i + 1) lows highs) (b : Rectangle) {left right down up : ℤ} (el : left ≡ b .xcoord .lb) (er : right ≡ b .xcoord .ub) (ed : down ≡ b .ycoord .lb)
     (eu : up ≡ b .ycoord .ub) where
   pub put : Put lows highs i b (set (set lows (2 * i) left) (2 * i + 1) down) (set (set highs (2 * i) right) (2 * i + 1) up)
   put =

@@ -1,9 +1,9 @@
 -- Boxes as a terminal joins: what is stored, what a climb has still to widen, and what all cover at the end.
-use Prim.Native.Nat.{ℕ, _+_, _*_, _≤_, _<_}
+use Prim.Native.Nat.{ℕ, _+_, _≤_, _<_}
 use mathlib.Core.Path.{_≡_}
 use mathlib.Core.Logic.{_≢_}
 use mathlib.Core.List.{List}
-use lib.ListN.{length, getD}
+use lib.ListN.{length}
 use lib.IntN.{ℤ, pos, negsuc}
 use lib.Signed.{_≤ℤ_}
 use Rattle.geometry.specs.declared.Point.{Point}
@@ -18,8 +18,8 @@ use Rattle.tree.specs.Shape.{Linked}
 use Rattle.tree.specs.WellFormed.{WellFormed, Fits}
 use Rattle.search.specs.declared.Join.{Join}
 use Rattle.search.specs.Find.{joinOf}
-use Rattle.search.specs.Walk.{pointAt}
-use Rattle.search.specs.Boxes.{boxAt, Covers}
+use Rattle.tree.specs.Memory.{pointAt}
+use Rattle.search.specs.Boxes.{boxAt, BoxRoom, Covers}
 use Rattle.joining.specs.declared.Counts.{Counts}
 use Rattle.joining.specs.Store.{Store, ParentsIn}
 use Rattle.joining.specs.Standing.{Stores, At, Joined}
@@ -55,11 +55,6 @@ lowest = negsuc 2147483647
 abbrev pub highest : ℤ
 highest = pos 2147483647
 
--- two columns with room for n boxes
-pub record Room (n : ℕ) (lows highs : List ℤ) : Type 0 where
-  pub in-lows : 2 * n ≤ length lows
-  pub in-highs : 2 * n ≤ length highs
-
 -- box i is stored, and the others stay
 pub record Put (lows highs : List ℤ) (i : ℕ) (b : Rectangle) (lows′ highs′ : List ℤ) : Type 0 where
   pub here : boxAt lows′ highs′ i ≡ b
@@ -70,7 +65,7 @@ pub record Put (lows highs : List ℤ) (i : ℕ) (b : Rectangle) (lows′ highs�
 -- ---- the boxes above
 -- the boxes cover the nodes, but that the box of f may lack q, which those of its children may have
 pub record Lacks (ns : List Node) (f : ℕ) (q : Point) (lows highs : List ℤ) : Type 0 where
-  pub room : Room (length ns) lows highs
+  pub room : BoxRoom (length ns) lows highs
   pub own : (i : ℕ) → i < length ns → HasPoint (boxAt lows highs i) (nodeAt ns i .point)
   pub below : (a b : ℕ) → a ≢ f → nodeAt ns b .parent ≡ at a → HasBox (boxAt lows highs a) (boxAt lows highs b)
   pub but : (b : ℕ) → nodeAt ns b .parent ≡ at f → HasBox (widen (boxAt lows highs f) q) (boxAt lows highs b)
@@ -108,7 +103,7 @@ pub record Coverable (n more : ℕ) (xs ys : List ℤ) (parent : List ℕ) (lows
   pub in-xs : n + more ≤ length xs
   pub in-ys : n + more ≤ length ys
   pub in-parent : n + more ≤ length parent
-  pub room : Room (n + more) lows highs
+  pub room : BoxRoom (n + more) lows highs
 
 -- the child of a branch that is split is one of n nodes
 abbrev pub EndsIn : ℕ → T.Join → Type 0

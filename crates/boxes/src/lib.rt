@@ -15,11 +15,11 @@ ghost use Rattle.tree.specs.Search.{onto};
 ghost use Rattle.tree.specs.Route.{rooted};
 ghost use Rattle.tree.specs.WellFormed.{newNodes};
 ghost use Rattle.search.specs.Find.{joinOf};
-ghost use Rattle.search.specs.Boxes.{boxAt, Covers};
+ghost use Rattle.search.specs.Boxes.{BoxRoom, Covers};
 ghost use Rattle.joining.specs.Links.{links};
 ghost use Rattle.joining.specs.Store.{rowsOf, store, ParentsIn};
 ghost use Rattle.joining.specs.Standing.{Standing, At};
-ghost use Rattle.boxes.specs.Covering.{pointBox, stretch, widen, Room, Put, Raised, Climbed, Shown, JoinCovered, SplitCovered, Coverable, EndsIn, JoinedUnder};
+ghost use Rattle.boxes.specs.Covering.{pointBox, stretch, widen, Put, Raised, Climbed, Shown, JoinCovered, SplitCovered, Coverable, EndsIn, JoinedUnder};
 
 // How many numbers a column of boxes has: two for each node.
 pub const BOUNDS: usize = 2 * tree::MOST_NODES;
@@ -71,26 +71,8 @@ fn widened(b: Rectangle, q: Point) -> Rectangle
     }
 }
 
-fn box_at<'a>(lows: &'a [i32], highs: &'a [i32], i: usize) -> Rectangle
-    requires { ⌜ Room (i + 1) (now lows) (now highs) ⌝ }
-    ensures { λ r. ⌜ r ≡ boxAt (now (lows .entry)) (now (highs .entry)) i ⌝ }
-{
-    let x = Interval {
-        lb: lows[2 * i],
-        ub: highs[2 * i],
-    };
-    let y = Interval {
-        lb: lows[2 * i + 1],
-        ub: highs[2 * i + 1],
-    };
-    Rectangle {
-        xcoord: x,
-        ycoord: y,
-    }
-}
-
 fn put_box(lows: &mut [i32], highs: &mut [i32], i: usize, b: Rectangle)
-    requires { ⌜ Room (i + 1) (now lows) (now highs) ⌝ }
+    requires { ⌜ BoxRoom (i + 1) (now lows) (now highs) ⌝ }
     ensures { λ r. ⌜ Put (now (lows .entry)) (now (highs .entry)) i b (now (lows .exit)) (now (highs .exit)) ⌝ }
 {
     let x = b.xcoord;
@@ -109,11 +91,11 @@ fn put_box(lows: &mut [i32], highs: &mut [i32], i: usize, b: Rectangle)
 
 // The box of node i has q, and its parent is next; where it had q already, so had all above, and no node is next.
 fn raise(lows: &mut [i32], highs: &mut [i32], parent: &[u16], i: u16, q: Point) -> u16
-    requires { ⌜ Room (i + 1) (now lows) (now highs) × (i + 1 ≤ length (now parent)) ⌝ }
+    requires { ⌜ BoxRoom (i + 1) (now lows) (now highs) × (i + 1 ≤ length (now parent)) ⌝ }
     ensures { λ r. ⌜ Raised (now (parent .entry)) i q (now (lows .entry)) (now (highs .entry)) r (now (lows .exit)) (now (highs .exit)) ⌝ }
 {
     let m = search::wide(i);
-    let b = box_at(lows, highs, m);
+    let b = search::box_at(lows, highs, m);
     if b.contains(q) {
         return tree::NO_NODE;
     }
@@ -124,7 +106,7 @@ fn raise(lows: &mut [i32], highs: &mut [i32], parent: &[u16], i: u16, q: Point) 
 
 // From a node up to the source, in a tree of n nodes, the boxes have q.
 fn climb(lows: &mut [i32], highs: &mut [i32], parent: &[u16], from: u16, q: Point, n: u16)
-    requires { ⌜ Room n (now lows) (now highs) × (n ≤ length (now parent)) ⌝ }
+    requires { ⌜ BoxRoom n (now lows) (now highs) × (n ≤ length (now parent)) ⌝ }
     ensures { λ r. ⌜ Climbed n (now (parent .entry)) from q (now (lows .entry)) (now (highs .entry)) (now (lows .exit)) (now (highs .exit)) ⌝ }
 {
     let mut i = from;
@@ -142,7 +124,7 @@ fn climb(lows: &mut [i32], highs: &mut [i32], parent: &[u16], from: u16, q: Poin
 // ---- the source alone
 
 pub fn cover_source(lows: &mut [i32], highs: &mut [i32], s: Point)
-    requires { ⌜ Room 1 (now lows) (now highs) ⌝ }
+    requires { ⌜ BoxRoom 1 (now lows) (now highs) ⌝ }
     ensures { λ r. ⌜ Covers (rooted s (pos 0) 0 0 .nodes) (now (lows .exit)) (now (highs .exit)) ⌝ }
 {
     let b = point_box(s);
@@ -153,7 +135,7 @@ pub fn cover_source(lows: &mut [i32], highs: &mut [i32], s: Point)
 
 // Below p.
 fn cover_leaf(lows: &mut [i32], highs: &mut [i32], parent: &[u16], n: u16, p: NodeIndex, q: Point)
-    requires { ⌜ (n + 1 ≤ noNode) × (Room (n + 1) (now lows) (now highs) × (n + 1 ≤ length (now parent))) ⌝ }
+    requires { ⌜ (n + 1 ≤ noNode) × (BoxRoom (n + 1) (now lows) (now highs) × (n + 1 ≤ length (now parent))) ⌝ }
     ensures { λ r. ⌜ JoinCovered (λ ns. ParentsIn ns (now (parent .entry))) (onto (p .0)) n q (now (lows .entry)) (now (highs .entry)) (now (lows .exit)) (now (highs .exit)) ⌝ }
 {
     let m = search::wide(n);
@@ -180,8 +162,8 @@ fn cover_split<'a>(
     let i = search::wide(c.0);
     let a = point_box(q);
     put_box(lows, highs, m, a);
-    let below = box_at(lows, highs, i);
-    let p = search::point_at(xs, ys, m + 1);
+    let below = search::box_at(lows, highs, i);
+    let p = tree::point_at(xs, ys, m + 1);
     let b = widened(below, p);
     put_box(lows, highs, m + 1, b);
     climb(lows, highs, parent, n + 1, q, n + 2);
@@ -224,7 +206,7 @@ pub fn join(
     q: Point,
     j: Join,
 ) -> Counts
-    requires { ⌜ Standing (At j) (newNodes (joinOf j)) q k (store (rowsOf (now xs) (now ys) (now path) (now parent) (now kind) (now number)) (links (now last) (now prev) (now next))) × Room (length (now xs)) (now lows) (now highs) ⌝ }
+    requires { ⌜ Standing (At j) (newNodes (joinOf j)) q k (store (rowsOf (now xs) (now ys) (now path) (now parent) (now kind) (now number)) (links (now last) (now prev) (now next))) × BoxRoom (length (now xs)) (now lows) (now highs) ⌝ }
     ensures { λ r. ⌜ JoinedUnder j q k (store (rowsOf (now (xs .entry)) (now (ys .entry)) (now (path .entry)) (now (parent .entry)) (now (kind .entry)) (now (number .entry))) (links (now (last .entry)) (now (prev .entry)) (now (next .entry)))) (now (lows .entry)) (now (highs .entry)) r (store (rowsOf (now (xs .exit)) (now (ys .exit)) (now (path .exit)) (now (parent .exit)) (now (kind .exit)) (now (number .exit))) (links (now (last .exit)) (now (prev .exit)) (now (next .exit)))) (now (lows .exit)) (now (highs .exit)) ⌝ }
 {
     let r = joining::join(

@@ -1,5 +1,5 @@
 -- What a caller of `ferruleslate_figures` holds after the call, by a routing: each figure of the tree by its own definition. Definitions only.
-use lib.IntN.{ℤ, pos, negℤ}
+use lib.IntN.{pos, negℤ}
 use Rattle.tree.specs.Tree.{total}
 use Rattle.tree.specs.Measures.{worst}
 use Rattle.route.specs.Routing.{Routing, refused, routed}

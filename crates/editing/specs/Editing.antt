@@ -34,16 +34,17 @@ editOf (Inserted n) t = D.inserted (nameIn n) t
 
 -- ---- what an edit shows
 -- after a refusal "the tree value" is "as before"
-abbrev pub Kept : {A : Type 0} → Answer → A → A → Type 0
-Kept (Refused n) before after = after ≡ before
-Kept (Inserted n) before after = Unit {0}
+abbrev pub AsBefore : {A : Type 0} → Answer → A → A → Type 0
+AsBefore (Refused n) before after = after ≡ before
+AsBefore (Inserted n) before after = Unit {0}
 
 -- the edit x of the tree in t
 pub record Edits (x : D.Edit) (t : Table) (r : Edit) : Type 0 where
   pub is : editOf (r .answer) (tableTree (r .table)) ≡ x
-  pub kept : Kept (r .answer) t (r .table)
+  pub kept : AsBefore (r .answer) t (r .table)
   pub tabled : Tabled (r .table)
 
--- 10, of n nodes, how many more there would be, and the new Steiner number, 0 for none
+-- the test that the code makes for 10, of counts alone: of n nodes, how many more there would be, and the new Steiner number, 0 for none.
+-- It is the paper's, `full` (`overfull-is`, proofs/Refusing.antt)
 abbrev pub overfull : ℕ → ℕ → ℕ → Bool
 overfull n more number = ltb mostNodes (n + more) || ltb mostNodes number

@@ -8,7 +8,7 @@ use search::Query;
 use tree::NodeIndex;
 use tree::NodeName;
 ghost use mathlib.Core.Path.{_≡_};
-ghost use Prim.Native.Nat.{ℕ, _+_, _<_, _≤_};
+ghost use Prim.Native.Nat.{_+_, _<_, _≤_};
 ghost use lib.ListN.{length};
 ghost use Rattle.geometry.specs.Laws.{Within};
 ghost use Rattle.tree.specs.Limits.{mostNodes, reach};
@@ -49,21 +49,6 @@ pub struct Edit {
     pub answer: Answer,
     pub table: Table,
 }
-
-// The refusals' numbers.
-pub const TOO_MANY_KEEPOUTS: u8 = 2;
-
-pub const OUTSIDE: u8 = 5;
-
-pub const BAD_KEEPOUT: u8 = 6;
-
-pub const NO_SUCH_NODE: u8 = 7;
-
-pub const NOT_A_CHILD: u8 = 8;
-
-pub const NEW_SOURCE: u8 = 9;
-
-pub const FULL: u8 = 10;
 
 fn refuse(t: Table, n: u8) -> Edit
     requires { ⌜ Tabled t ⌝ }
@@ -165,7 +150,7 @@ fn attach_at(t: Table, name: NodeName, q: Point, p: NodeIndex) -> Edit
     ensures { λ r. ⌜ Edits (attachAt (tableTree t) (nameIn name) q (p .0)) t r ⌝ }
 {
     if overfull(t.counts.nodes, 1, steiner_number(name)) {
-        return refuse(t, FULL);
+        return refuse(t, tree::FULL);
     }
     let grown = table_steps::with_leaf(t, name, q, p);
     Edit {
@@ -181,10 +166,10 @@ fn splice_at(t: Table, name: NodeName, q: Point, p: NodeIndex, c: NodeIndex) -> 
     ensures { λ r. ⌜ Edits (spliceAt (tableTree t) (nameIn name) q (p .0) (c .0)) t r ⌝ }
 {
     if !is_child(t, p, c) {
-        return refuse(t, NOT_A_CHILD);
+        return refuse(t, tree::NOT_A_CHILD);
     }
     if overfull(t.counts.nodes, 1, steiner_number(name)) {
-        return refuse(t, FULL);
+        return refuse(t, tree::FULL);
     }
     let grown = table_steps::with_node_between(t, name, q, p, c);
     Edit {
@@ -212,7 +197,7 @@ fn join_found(t: Table, q: Point, j: Join) -> Edit
     ensures { λ r. ⌜ Edits (joinFound (tableTree t) q (joinOf j)) t r ⌝ }
 {
     if is_full(t.counts, j) {
-        return refuse(t, FULL);
+        return refuse(t, tree::FULL);
     }
     let te = t.counts.terminal;
     let grown = table_steps::with_terminal(t, q, j);
@@ -230,10 +215,10 @@ pub fn insert_steiner_node(t: Table, q: Point, parent: ParentName) -> Edit
     ensures { λ r. ⌜ Edits (insertSteinerNode (tableTree t) q (parentNameOf parent)) t r ⌝ }
 {
     if job::outside(q) {
-        return refuse(t, OUTSIDE);
+        return refuse(t, tree::OUTSIDE);
     }
     let Lookup::Found(p) = steiner_parent(t, parent) else {
-        return refuse(t, NO_SUCH_NODE);
+        return refuse(t, tree::NO_SUCH_NODE);
     };
     let number = t.counts.steiner;
     attach_at(t, NodeName::Steiner(number), q, p)
@@ -245,10 +230,10 @@ pub fn insert_terminal_node(t: Table, q: Point, parent: ParentName) -> Edit
     ensures { λ r. ⌜ Edits (insertTerminalNode (tableTree t) q (parentNameOf parent)) t r ⌝ }
 {
     if job::outside(q) {
-        return refuse(t, OUTSIDE);
+        return refuse(t, tree::OUTSIDE);
     }
     let Lookup::Found(p) = terminal_parent(t, q, parent) else {
-        return refuse(t, NO_SUCH_NODE);
+        return refuse(t, tree::NO_SUCH_NODE);
     };
     let number = t.counts.terminal;
     attach_at(t, NodeName::Terminal(number), q, p)
@@ -266,16 +251,16 @@ pub fn insert_node_on_branch(
     ensures { λ r. ⌜ Edits (insertNodeOnBranch (tableTree t) (kindIn kind) q (nameIn start) (nameIn end)) t r ⌝ }
 {
     if job::outside(q) {
-        return refuse(t, OUTSIDE);
+        return refuse(t, tree::OUTSIDE);
     }
     let Lookup::Found(p) = nodes::find_node(t, start) else {
-        return refuse(t, NO_SUCH_NODE);
+        return refuse(t, tree::NO_SUCH_NODE);
     };
     let Lookup::Found(c) = nodes::find_node(t, end) else {
-        return refuse(t, NO_SUCH_NODE);
+        return refuse(t, tree::NO_SUCH_NODE);
     };
     match kind {
-        NodeType::Source => refuse(t, NEW_SOURCE),
+        NodeType::Source => refuse(t, tree::NEW_SOURCE),
         NodeType::Steiner => {
             let number = t.counts.steiner;
             splice_at(t, NodeName::Steiner(number), q, p, c)
@@ -295,13 +280,13 @@ pub fn insert_by_search(t: Table, query: Query, ks: &[i32]) -> Edit
 {
     let q = query.point;
     if job::outside(q) {
-        return refuse(t, OUTSIDE);
+        return refuse(t, tree::OUTSIDE);
     }
     if keepouts::too_many(ks) {
-        return refuse(t, TOO_MANY_KEEPOUTS);
+        return refuse(t, tree::TOO_MANY);
     }
     if keepouts::any_invalid(ks) {
-        return refuse(t, BAD_KEEPOUT);
+        return refuse(t, tree::BAD_KEEPOUT);
     }
     let j = find_place(t, query, ks);
     join_found(t, q, j)

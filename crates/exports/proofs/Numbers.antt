@@ -18,7 +18,7 @@ use Rattle.output.specs.declared.Answer.{Answer}
 use Rattle.output.specs.declared.Answer.the-variants.{Wrote, Refused}
 use Rattle.output.specs.Answer.{noRoom, Answers}
 use Rattle.output.specs.Answer as O
-use Rattle.exports.specs.Numbers.{minus, numberOf, sizeIn, Writes, BytesOf, Figures, figuresOf, statusOf, figuresAfter}
+use Rattle.exports.specs.Numbers.{minus, returnedOf, sizeIn, Writes, BytesOf, Figures, figuresOf, statusOf, figuresAfter}
 
 -- ---- numbers
 pub home64 : {z y : ℤ} → SFits w64 z → z ≡ y → toZ w64 (ofZ w64 z) ≡ y
@@ -57,8 +57,8 @@ module _ {answer : Answer} (small : sizeIn answer < 2 ^ 63) {n : ℕ} (e : answe
   pub wrote-fits : SFits w64 (pos n)
   wrote-fits = record { sfits = below }
 
-  pub wrote-is : toZ w64 n ≡ numberOf answer
-  wrote-is = toZ-pos w64 n below ∙ sym (ap numberOf e)
+  pub wrote-is : toZ w64 n ≡ returnedOf answer
+  wrote-is = toZ-pos w64 n below ∙ sym (ap returnedOf e)
 
 module _ {xs out out′ : List ℕ} {r : Answer} (a : Answers xs out r out′) where
   -- no more was written than the buffer holds, and 11 is a small number
@@ -72,8 +72,8 @@ module _ {xs out out′ : List ℕ} {r : Answer} (a : Answers xs out r out′) w
           omega (arith, l, h)
       by false e = omega arith
 
-  pub writes : {z : ℤ} → z ≡ numberOf r → Writes xs out z out′
-  writes e = record { answer = e ∙ ap numberOf (a .answer); content = a .content }
+  pub writes : {z : ℤ} → z ≡ returnedOf r → Writes xs out z out′
+  writes e = record { answer = e ∙ ap returnedOf (a .answer); content = a .content }
 
 -- ---- by what a job gets
 module _ {x : Routing} {n : ℕ} (e : refused n ≡ x) {z : ℤ} (m : z ≡ minus n) where

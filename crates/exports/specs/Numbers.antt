@@ -16,9 +16,9 @@ abbrev pub minus : ℕ → ℤ
 minus n = negℤ (pos n)
 
 -- how much was written, or a refusal
-abbrev pub numberOf : Answer → ℤ
-numberOf (Wrote n) = pos n
-numberOf (Refused n) = minus n
+abbrev pub returnedOf : Answer → ℤ
+returnedOf (Wrote n) = pos n
+returnedOf (Refused n) = minus n
 
 abbrev pub sizeIn : Answer → ℕ
 sizeIn (Wrote n) = n
@@ -26,7 +26,7 @@ sizeIn (Refused n) = n
 
 -- the answer to writing xs, as a number, and the buffer after
 pub record Writes (xs out : List ℕ) (r : ℤ) (out′ : List ℕ) : Type 0 where
-  pub answer : r ≡ numberOf (answerOf xs out)
+  pub answer : r ≡ returnedOf (answerOf xs out)
   pub content : out′ ≡ contentOf xs out
 
 -- the tree bytes of a routing; a refusal of the job comes before 11, and "all lent bytes are then as before"

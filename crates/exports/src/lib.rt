@@ -6,7 +6,7 @@ ghost use mathlib.Core.Path.{_≡_};
 ghost use Prim.Native.Nat.{_<_, _^_};
 ghost use Rattle.route.specs.Routing.{routeOf};
 ghost use Rattle.planning.specs.Output.{outputOf};
-ghost use Rattle.exports.specs.Numbers.{minus, sizeIn, numberOf, Writes, BytesOf, figures, statusOf, figuresAfter};
+ghost use Rattle.exports.specs.Numbers.{minus, sizeIn, returnedOf, Writes, BytesOf, figures, statusOf, figuresAfter};
 
 // ---- answers as numbers
 
@@ -18,7 +18,7 @@ fn refusal(n: u8) -> i64
 
 fn number_of(answer: Answer) -> i64
     requires { ⌜ sizeIn «answer» < 2 ^ 63 ⌝ }
-    ensures { λ r. ⌜ r ≡ numberOf «answer» ⌝ }
+    ensures { λ r. ⌜ r ≡ returnedOf «answer» ⌝ }
 {
     match answer {
         Answer::Wrote(n) => n as i64,

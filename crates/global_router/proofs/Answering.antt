@@ -1,6 +1,6 @@
 -- The answers of the calls that give a tree, by what led to them.
 use Prim.Native.Nat.{ℕ}
-use mathlib.Core.Path.{_≡_, refl, sym, ap, subst, _∙_}
+use mathlib.Core.Path.{_≡_, sym, ap, subst, _∙_}
 use mathlib.Core.Bool.{Bool, true, false}
 use mathlib.Core.List.{List}
 use native.Mathlib.Omega.{arith}
@@ -22,7 +22,7 @@ use Rattle.global_router.specs.declared.Answer.{Answer}
 use Rattle.global_router.specs.declared.Answer.the-variants.{Refused, Done}
 use Rattle.global_router.specs.declared.Outcome.{Outcome}
 use Rattle.global_router.specs.Stored.{treeOf}
-use Rattle.global_router.specs.Calls.{Outcomes, answerOf, newOf, Answered}
+use Rattle.global_router.specs.Calls.{Outcomes, routingFrom, newOf, Answered}
 
 pub origin-near : (p : Point) → p ≡ origin → Within reach p
 origin-near p e = subst (Within reach) (sym e) (record { xcoord = omega arith; ycoord = omega arith })
@@ -31,7 +31,7 @@ origin-near p e = subst (Within reach) (sym e) (record { xcoord = omega arith; y
 pub refuses : (n : ℕ) (s : Point) (t : Table) (r : Outcome) → s ≡ origin → tableTree t ≡ begun s → Answered (Refused n) t r → Outcomes (refused n) r
 refuses n s t r e h p =
     record {
-      is = ap (λ (a : Answer). answerOf a (treeOf (r .tree))) (p .answer);
+      is = ap (λ (a : Answer). routingFrom a (treeOf (r .tree))) (p .answer);
       beside = λ k f. p .tree ∙ h ∙ ap begun e;
       stored = p .stored;
     }
@@ -40,7 +40,7 @@ refuses n s t r e h p =
 pub gives : (x : Tree) (t : Table) (r : Outcome) → tableTree t ≡ x → Answered Done t r → Outcomes (routed x) r
 gives x t r h p =
     record {
-      is = ap (λ (a : Answer). answerOf a (treeOf (r .tree))) (p .answer) ∙ ap routed (p .tree ∙ h);
+      is = ap (λ (a : Answer). routingFrom a (treeOf (r .tree))) (p .answer) ∙ ap routed (p .tree ∙ h);
       beside = λ n f. absurd (let z : _≡_ {A = ℕ} 0 1 = cc in omega arith);
       stored = p .stored;
     }
@@ -64,9 +64,9 @@ module _ (p : Point) (b : Bool) (eb : b ≡ outside p) {r : Outcome} where
       is = rw (sym eb ∙ t)
 
 -- a job's tree, as it stands in columns, with what demand 3 owes of it
-pub routes : (bytes : List ℕ) (x : RoutedTable) (a : Answer) (r : Outcome) → Tables (routeOf bytes) x → ((t : Tree) → answerOf a t ≡ J.answerOf (x .answer) t)
-    → Answered a (x .table) r → Outcomes (routeOf bytes) r × Owed bytes (answerOf (r .answer) (treeOf (r .tree)))
+pub routes : (bytes : List ℕ) (x : RoutedTable) (a : Answer) (r : Outcome) → Tables (routeOf bytes) x → ((t : Tree) → routingFrom a t ≡ J.routingFrom (x .answer) t)
+    → Answered a (x .table) r → Outcomes (routeOf bytes) r × Owed bytes (routingFrom (r .answer) (treeOf (r .tree)))
 routes bytes x a r v e p = (record { is = is; beside = λ n f. p .tree ∙ v .beside n f; stored = p .stored }, subst (Owed bytes) (sym is) (demand3 bytes))
   where
-    is : answerOf (r .answer) (treeOf (r .tree)) ≡ routeOf bytes
-    is = (λ i. answerOf (p .answer i) (p .tree i)) ∙ e (tableTree (x .table)) ∙ v .is
+    is : routingFrom (r .answer) (treeOf (r .tree)) ≡ routeOf bytes
+    is = (λ i. routingFrom (p .answer i) (p .tree i)) ∙ e (tableTree (x .table)) ∙ v .is

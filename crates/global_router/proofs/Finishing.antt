@@ -7,7 +7,7 @@ use Rattle.editing.specs.declared.Answer.{Answer}
 use Rattle.editing.specs.declared.Answer.the-variants.{Refused, Inserted}
 use Rattle.editing.specs.declared.Edit.{Edit}
 use Rattle.editing.specs.Edits as D
-use Rattle.editing.specs.Editing.{editOf, Edits}
+use Rattle.editing.specs.Editing.{Edits}
 use Rattle.global_router.specs.declared.GlobalRoutingTree.{GlobalRoutingTree}
 use Rattle.global_router.specs.declared.Edited.{Edited}
 use Rattle.global_router.specs.Stored.{treeOf, Stored}

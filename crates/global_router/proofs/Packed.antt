@@ -14,7 +14,7 @@ use Rattle.tree.proofs.Measuring.{reaches}
 use Rattle.search.specs.Columns.{Chain, Chained}
 use Rattle.joining.specs.Store.{nodeOf, upTo}
 use Rattle.joining.proofs.Reading.{length-upto, children-are}
-use Rattle.nodes.specs.Nodes.{blankNode, Packs}
+use Rattle.nodes.specs.Nodes.{Packs}
 use Rattle.nodes.specs.declared.Table.{Table}
 use Rattle.nodes.specs.Table.{tableColumns, tableTree, Tabled}
 use Rattle.global_router.specs.declared.GlobalRoutingTree.{GlobalRoutingTree}
@@ -44,7 +44,7 @@ memory t nodes allowed =
 
 module _ (t : Table) (v : Tabled t) (nodes : List RoutingNode) (packs : Packs (tableColumns t .rows) (t .counts .nodes) nodes) where
   nodes-same : treeOf (memory t nodes (t .allowed)) .nodes ≡ tableTree t .nodes
-  nodes-same = upto-same (M.nodeOf (memory t nodes (t .allowed))) (nodeOf (tableColumns t)) (t .counts .nodes) (λ i h. packs .is i h _)
+  nodes-same = upto-same (M.nodeStored (memory t nodes (t .allowed))) (nodeOf (tableColumns t)) (t .counts .nodes) (λ i h. packs .is i h _)
 
   packed-is : treeOf (memory t nodes (t .allowed)) ≡ tableTree t
   packed-is =

@@ -7,7 +7,6 @@ use Rattle.tree.specs.Measures.{lookup}
 use Rattle.joining.specs.Store.{nodeOf}
 use Rattle.joining.proofs.Reading.{length-upto}
 use Rattle.output.specs.declared.Answer.{Answer}
-use Rattle.output.specs.Answer.{Answers}
 use Rattle.nodes.specs.declared.Lookup.{Lookup}
 use Rattle.nodes.specs.declared.Table.{Table}
 use Rattle.nodes.specs.Nodes.{lookupOf}

@@ -42,12 +42,12 @@ module _ (c : Columns) (n : ℕ) (chains : (p : ℕ) → p < n → Chained (c .p
 module _ (g : GlobalRoutingTree) (v : Stored g) where
   -- ---- each node can be kept in a row
   size : length (treeOf g .nodes) ≡ g .count
-  size = length-upto (M.nodeOf g) (g .count)
+  size = length-upto (M.nodeStored g) (g .count)
 
-  no-parent : (i : ℕ) → i < g .count → M.nodeOf g i .parent ≡ at noNode → ⊥
+  no-parent : (i : ℕ) → i < g .count → M.nodeStored g i .parent ≡ at noNode → ⊥
   unfolding nodeAt
   no-parent i h e =
-      let is : nodeAt (treeOf g .nodes) i ≡ M.nodeOf g i = getD-upto (M.nodeOf g) blank (g .count) i h in
+      let is : nodeAt (treeOf g .nodes) i ≡ M.nodeStored g i = getD-upto (M.nodeStored g) blank (g .count) i h in
       omega (arith, size, v .few, parent-in (v .formed .linked) i noNode (ap (λ (x : Node). x .parent) is ∙ e))
 
   pub unpackable : Unpackable (g .nodes) (g .count)
@@ -79,7 +79,7 @@ module _ (g : GlobalRoutingTree) (v : Stored g) where
         }
 
     nodes-same : tableTree (table (countsOf g) (g .allowed)) .nodes ≡ treeOf g .nodes
-    nodes-same = upto-same (nodeOf (columns r (g .last) (g .prev))) (M.nodeOf g) (g .count) (λ i h. sym (packs .is i h _))
+    nodes-same = upto-same (nodeOf (columns r (g .last) (g .prev))) (M.nodeStored g) (g .count) (λ i h. sym (packs .is i h _))
 
     unpacked-is : tableTree (table (countsOf g) (g .allowed)) ≡ treeOf g
     unpacked-is =

@@ -20,13 +20,13 @@ unfoldable pub newOf : Point → Routing
 newOf s = cond (outside s) (refused 5) (routed (begun s))
 
 -- the paper's number, or the tree
-abbrev pub answerOf : Answer → Tree → Routing
-answerOf (Refused n) t = refused n
-answerOf Done t = routed t
+abbrev pub routingFrom : Answer → Tree → Routing
+routingFrom (Refused n) t = refused n
+routingFrom Done t = routed t
 
 -- an outcome is the answer x; with a refusal stands the tree of a source at (0, 0)
 pub record Outcomes (x : Routing) (r : Outcome) : Type 0 where
-  pub is : answerOf (r .answer) (treeOf (r .tree)) ≡ x
+  pub is : routingFrom (r .answer) (treeOf (r .tree)) ≡ x
   pub beside : (n : ℕ) → x ≡ refused n → treeOf (r .tree) ≡ begun origin
   pub stored : Stored (r .tree)
 

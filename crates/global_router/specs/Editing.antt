@@ -9,7 +9,7 @@ use Rattle.editing.specs.declared.Edit as E
 use Rattle.editing.specs.declared.Answer.{Answer}
 use Rattle.editing.specs.declared.Answer.the-variants.{Refused, Inserted}
 use Rattle.editing.specs.Edits as D
-use Rattle.editing.specs.Editing.{editOf, Kept}
+use Rattle.editing.specs.Editing.{editOf, AsBefore}
 use Rattle.global_router.specs.declared.GlobalRoutingTree.{GlobalRoutingTree}
 use Rattle.global_router.specs.declared.Edited.{Edited}
 use Rattle.global_router.specs.Stored.{treeOf, Stored}
@@ -17,7 +17,7 @@ use Rattle.global_router.specs.Stored.{treeOf, Stored}
 -- an edit of g is x: "A refusal gives its number; the tree value" is "then as before"
 pub record EditedTo (x : D.Edit) (g : GlobalRoutingTree) (r : Edited) : Type 0 where
   pub is : editOf (r .answer) (treeOf (r .tree)) ≡ x
-  pub kept : Kept (r .answer) g (r .tree)
+  pub kept : AsBefore (r .answer) g (r .tree)
   pub stored : Stored (r .tree)
 
 -- the tree that stands beside an answer
@@ -28,7 +28,7 @@ chosen (Inserted n) before after = after
 -- what stands in a table after an edit is in memory
 pub record Finished (g : GlobalRoutingTree) (e : E.Edit) (r : Edited) : Type 0 where
   pub is : editOf (r .answer) (treeOf (r .tree)) ≡ editOf (e .answer) (tableTree (e .table))
-  pub kept : Kept (r .answer) g (r .tree)
+  pub kept : AsBefore (r .answer) g (r .tree)
   pub stored : Stored (r .tree)
 
 -- an edit of g by the rectangles whose numbers are gathered in k

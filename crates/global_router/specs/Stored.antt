@@ -21,8 +21,8 @@ childrenIn g i = reverse (chain (g .prev) (getD (g .last) i 0))
 abbrev pub linksIn : GlobalRoutingTree → Links
 linksIn g = links (g .last) (g .prev) (g .next)
 
-abbrev pub nodeOf : GlobalRoutingTree → ℕ → Node
-nodeOf g i = nodeIn (getD (g .nodes) i blankNode) (childrenIn g i)
+abbrev pub nodeStored : GlobalRoutingTree → ℕ → Node
+nodeStored g i = nodeIn (getD (g .nodes) i blankNode) (childrenIn g i)
 
 -- how many nodes there are, and the next numbers
 abbrev pub countsOf : GlobalRoutingTree → Counts
@@ -31,7 +31,7 @@ countsOf g = record { nodes = g .count; steiner = g .«next_steiner_id»; termin
 abbrev pub treeOf : GlobalRoutingTree → Tree
 treeOf g =
     record {
-      nodes = upTo (nodeOf g) (g .count);
+      nodes = upTo (nodeStored g) (g .count);
       allowed = g .allowed;
       farthest = g .farthest;
       limit = g .«worst_wirelength»;
@@ -50,7 +50,7 @@ pub record Stored (g : GlobalRoutingTree) : Type 0 where
   pub limit-small : g .«worst_wirelength» ≤ noLimit
   pub farthest-small : g .farthest ≤ across
   -- capacitance and delay are 0.0
-  pub figures : (i : ℕ) → i < g .count → (nodeOf g i .capacitance ≡ zeroFigure) × (nodeOf g i .delay ≡ zeroFigure)
+  pub figures : (i : ℕ) → i < g .count → (nodeStored g i .capacitance ≡ zeroFigure) × (nodeStored g i .delay ≡ zeroFigure)
   -- the columns, and that each chain of links ends
   pub nodes : length (g .nodes) ≡ mostNodes
   pub last : length (g .last) ≡ mostNodes

@@ -35,7 +35,7 @@ ghost use Rattle.reading.specs.Paths.{PathNamed};
 ghost use Rattle.editing.specs.Edits.{nodeNamed, insertSteinerNode, insertTerminalNode, insertNodeOnBranch, insertTerminalWithSteiner, insertTerminalWithConstraints};
 ghost use Rattle.editing.specs.Editing.{parentNameOf, kindIn};
 ghost use Rattle.global_router.specs.Stored.{treeOf, countsOf, Stored};
-ghost use Rattle.global_router.specs.Calls.{Outcomes, answerOf, newOf, Answered};
+ghost use Rattle.global_router.specs.Calls.{Outcomes, routingFrom, newOf, Answered};
 ghost use Rattle.global_router.specs.Editing.{EditedTo, EditedBy, Finished, chosen};
 ghost use Rattle.global_router.specs.Reading.{lookedUp};
 
@@ -173,7 +173,7 @@ impl GlobalRoutingTree {
         ensures { λ r. ⌜ Outcomes (newOf «source_position») r ⌝ }
     {
         if job::outside(source_position) {
-            return refused(editing::OUTSIDE);
+            return refused(tree::OUTSIDE);
         }
         let t = job_tables::source_alone(source_position);
         answered(Answer::Done, t)
@@ -448,7 +448,7 @@ impl GlobalRoutingTree {
 
 // A job's answer, as that of a call that gives a tree.
 fn answer_of(answer: ReadAnswer) -> Answer
-    ensures { λ r. ⌜ ((t : Tree) → answerOf r t ≡ J.answerOf answer t) ⌝ }
+    ensures { λ r. ⌜ ((t : Tree) → routingFrom r t ≡ J.routingFrom answer t) ⌝ }
 {
     match answer {
         ReadAnswer::Refused(n) => Answer::Refused(n),
@@ -459,7 +459,7 @@ fn answer_of(answer: ReadAnswer) -> Answer
 // The tree of a job. Refusals: 1 to 6, of the job's bytes.
 pub fn route(bytes: &[u8]) -> Outcome
     ensures is { λ r. ⌜ Outcomes (routeOf (now (bytes .entry))) r ⌝ }
-    ensures owed { λ r. ⌜ Owed (now (bytes .entry)) (answerOf (r .answer) (treeOf (r .tree))) ⌝ }
+    ensures owed { λ r. ⌜ Owed (now (bytes .entry)) (routingFrom (r .answer) (treeOf (r .tree))) ⌝ }
 {
     let routed = job_tables::route_table(bytes);
     let answer = routed.answer;

@@ -17,8 +17,7 @@ use Rattle.tree.proofs.Routing.{routed-start}
 use Rattle.tree.proofs.Fitting.{sums-inserts}
 use Rattle.tree.proofs.Forming.{formed-insert, formed-simple, formed-start, counted-insert, counted-simple, counted-start}
 use Rattle.search.specs.declared.Query.{Query}
-use Rattle.tree.specs.Memory.{keepoutsOf}
-use Rattle.search.specs.Walk.{pointAt}
+use Rattle.tree.specs.Memory.{pointAt, keepoutsOf}
 use Rattle.search.specs.Columns.{Chain}
 use Rattle.search.specs.Boxes.{Covers}
 use Rattle.joining.specs.declared.Counts.{Counts}
@@ -31,7 +30,7 @@ use Rattle.joining.proofs.Reading.{sized-columns, nodes-are}
 use Rattle.inserting.specs.declared.Way.{Way}
 use Rattle.inserting.specs.declared.Way.the-variants.{Simple, Search}
 use Rattle.inserting.specs.Insert.{Inserted, stepOf, CoveredFor, SummedFor, Asked, Covered}
-use Rattle.inserting.specs.Route.{sourceRow, firsts, treeOf, treeIn, queryAt, Routable, Holds, Routed}
+use Rattle.inserting.specs.Route.{sourceRow, firsts, treeAfter, treeIn, queryAt, Routable, Holds, RoutedColumns}
 
 -- ---- what holds before the loop, and at its head
 -- the source alone
@@ -48,8 +47,8 @@ pub record Under (m : ℕ) (lows₀ highs₀ : List ℤ) (way : Way) (ks px py :
   pub sized : SizedStore m c
   pub as-lows : length lows ≡ length lows₀
   pub as-highs : length highs ≡ length highs₀
-  pub holds : (w : ℕ) → Holds a w k c (treeOf way ks px py a w i)
-  pub covers : (w : ℕ) → CoveredFor way lows highs (treeOf way ks px py a w i)
+  pub holds : (w : ℕ) → Holds a w k c (treeAfter way ks px py a w i)
+  pub covers : (w : ℕ) → CoveredFor way lows highs (treeAfter way ks px py a w i)
 
 -- ---- one more terminal
 formed-step : (way : Way) (ks : List ℤ) (t : Tree) (q : Point) → WellFormed t → Within reach q → WellFormed (stepOf way ks t q)
@@ -77,15 +76,15 @@ unfolding inserts
 inserts-snoc g [] q t = refl
 inserts-snoc g (p ∷ qs) q t = inserts-snoc g qs q (g t p)
 
-tree-next : (way : Way) (ks px py : List ℤ) (a : Query) (w i : ℕ) → treeOf way ks px py a w (i + 1) ≡ stepOf way ks (treeOf way ks px py a w i) (pointAt px py i)
-unfolding treeOf upTo
+tree-next : (way : Way) (ks px py : List ℤ) (a : Query) (w i : ℕ) → treeAfter way ks px py a w (i + 1) ≡ stepOf way ks (treeAfter way ks px py a w i) (pointAt px py i)
+unfolding treeAfter upTo
 tree-next way ks px py a w i =
     ap (λ (n : ℕ). inserts (stepOf way ks) (firsts px py n) (rooted (a .point) (a .allowed) w (a .limit))) (add-one i)
     ∙ inserts-snoc (stepOf way ks) (firsts px py i) (pointAt px py i) (rooted (a .point) (a .allowed) w (a .limit))
 
 -- path lengths of the search's tree are sums
-sums-tree : (way : Way) (ks px py : List ℤ) (a : Query) (w i : ℕ) → SummedFor way (treeOf way ks px py a w i)
-unfolding treeOf
+sums-tree : (way : Way) (ks px py : List ℤ) (a : Query) (w i : ℕ) → SummedFor way (treeAfter way ks px py a w i)
+unfolding treeAfter
 sums-tree Simple ks px py a w i = tt
 sums-tree Search ks px py a w i =
     let r = routed-start (a .point) (a .allowed) w (a .limit) in
@@ -143,7 +142,7 @@ module _ (way : Way) (ks px py : List ℤ) (a : Query) (c₀ : Store) (v : Routa
 
   pub starts : (c : Store) → Begun c₀ (a .point) c → (lows highs : List ℤ) → Covers (rooted (a .point) (pos 0) 0 0 .nodes) lows highs
       → Under m lows highs way ks px py a 0 (record { nodes = 1; steiner = record { 0 = 1 }; terminal = record { 0 = 1 } }) c lows highs
-  unfolding treeOf upTo inserts
+  unfolding treeAfter upTo inserts
   starts c b lows highs v₀ =
       record {
         low = omega arith;
@@ -176,11 +175,11 @@ module _ (way : Way) (ks px py : List ℤ) (a : Query) (c₀ : Store) (v : Routa
     nodes-low : k .nodes ≤ 2 * i + 1
     nodes-low = let h = u .holds 0 in omega (arith, h .counted .size, h .counted .steiners, h .stores .size, h .stores .terminal, u .next)
 
-    pub ends : i ≡ length px → Routed way ks px py a k c
+    pub ends : i ≡ length px → RoutedColumns way ks px py a k c
     ends e =
-        let holds = subst (λ (n : ℕ). (w : ℕ) → Holds a w k c (treeOf way ks px py a w n)) e (u .holds) in
+        let holds = subst (λ (n : ℕ). (w : ℕ) → Holds a w k c (treeAfter way ks px py a w n)) e (u .holds) in
         record {
-          tree = λ w. whole w (treeOf way ks px py a w (length px)) (holds w);
+          tree = λ w. whole w (treeAfter way ks px py a w (length px)) (holds w);
           holds = holds;
           next = u .next ∙ ap (λ (n : ℕ). n + 1) e;
           sized = subst (λ (n : ℕ). SizedStore n c) (sym (u .sized .rows .xs)) (u .sized);
@@ -205,7 +204,7 @@ module _ (way : Way) (ks px py : List ℤ) (a : Query) (c₀ : Store) (v : Routa
           let h = u .holds 0 in
           subst (λ (x : Query). Standing (Asked way x lows highs) 2 (x .point) k c) (sym eb)
           (record {
-            tree = treeOf way ks px py a 0 i;
+            tree = treeAfter way ks px py a 0 i;
             formed = h .formed;
             stores = h .stores;
             when = record { query = record { limit = h .query .limit; allowed = h .query .allowed }; covers = u .covers 0; sums = sums-tree way ks px py a 0 i };
@@ -223,15 +222,15 @@ module _ (way : Way) (ks px py : List ℤ) (a : Query) (c₀ : Store) (v : Routa
           let o = d .inserted in
           record {
             low = omega arith;
-            next = omega (arith, o .stores (treeOf way ks px py a 0 i) (u .holds 0 .formed) (record { limit = u .holds 0 .query .limit; allowed = u .holds 0 .query .allowed }) (u .holds 0 .stores) .terminal, carried-step way ks (treeOf way ks px py a 0 i) (pointAt px py i) .next, u .holds 0 .stores .terminal, u .next);
+            next = omega (arith, o .stores (treeAfter way ks px py a 0 i) (u .holds 0 .formed) (record { limit = u .holds 0 .query .limit; allowed = u .holds 0 .query .allowed }) (u .holds 0 .stores) .terminal, carried-step way ks (treeAfter way ks px py a 0 i) (pointAt px py i) .next, u .holds 0 .stores .terminal, u .next);
             sized = subst (λ (n : ℕ). SizedStore n c′) (u .sized .rows .xs) (o .sized);
             as-lows = el ∙ u .as-lows;
             as-highs = eh ∙ u .as-highs;
-            holds = λ w. subst (Holds a w r c′) (sym (tree-next way ks px py a w i)) (after (treeOf way ks px py a w i) w (u .holds w) o);
+            holds = λ w. subst (Holds a w r c′) (sym (tree-next way ks px py a w i)) (after (treeAfter way ks px py a w i) w (u .holds w) o);
             covers = λ w.
                 let h = u .holds w in
                 subst (CoveredFor way lows′ highs′) (sym (tree-next way ks px py a w i))
-                (d .covers (treeOf way ks px py a w i) (h .formed) (record { limit = h .query .limit; allowed = h .query .allowed }) (h .stores) (u .covers w));
+                (d .covers (treeAfter way ks px py a w i) (h .formed) (record { limit = h .query .limit; allowed = h .query .allowed }) (h .stores) (u .covers w));
           }
         where
           after : (t : Tree) (w : ℕ) → Holds a w k c t → Inserted way ks (queryAt px py i a) k c r c′ → Holds a w r c′ (stepOf way ks t (pointAt px py i))

@@ -11,7 +11,8 @@ use Rattle.tree.specs.Tree.{Tree}
 use Rattle.tree.specs.Route.{inserts, rooted}
 use Rattle.tree.specs.WellFormed.{WellFormed, Counted}
 use Rattle.search.specs.declared.Query.{Query}
-use Rattle.search.specs.Walk.{nodeIndex, pointAt}
+use Rattle.tree.specs.Memory.{pointAt}
+use Rattle.search.specs.Walk.{nodeIndex}
 use Rattle.joining.specs.declared.Row.{Row}
 use Rattle.joining.specs.declared.Counts.{Counts}
 use Rattle.joining.specs.Store.{Store, columnsOf, SizedStore, upTo, nodesOf}
@@ -28,8 +29,8 @@ abbrev pub firsts : List ℤ → List ℤ → ℕ → List Point
 firsts px py i = upTo (pointAt px py) i
 
 -- the tree of the first i terminals; the search's point stands for the source, and w for the farthest distance, which is carried and not read
-unfoldable pub treeOf : Way → List ℤ → List ℤ → List ℤ → Query → ℕ → ℕ → Tree
-treeOf way ks px py a w i = inserts (stepOf way ks) (firsts px py i) (rooted (a .point) (a .allowed) w (a .limit))
+unfoldable pub treeAfter : Way → List ℤ → List ℤ → List ℤ → Query → ℕ → ℕ → Tree
+treeAfter way ks px py a w i = inserts (stepOf way ks) (firsts px py i) (rooted (a .point) (a .allowed) w (a .limit))
 
 -- the tree that the columns and the counts hold
 abbrev pub treeIn : Store → Counts → Query → ℕ → Tree
@@ -57,8 +58,8 @@ pub record Holds (a : Query) (w : ℕ) (k : Counts) (c : Store) (t : Tree) : Typ
   pub farthest : t .farthest ≡ w
 
 -- all terminals are in: the columns and counts give the whole tree, which is well formed
-pub record Routed (way : Way) (ks px py : List ℤ) (a : Query) (k : Counts) (c : Store) : Type 0 where
-  pub tree : (w : ℕ) → treeIn c k a w ≡ treeOf way ks px py a w (length px)
-  pub holds : (w : ℕ) → Holds a w k c (treeOf way ks px py a w (length px))
+pub record RoutedColumns (way : Way) (ks px py : List ℤ) (a : Query) (k : Counts) (c : Store) : Type 0 where
+  pub tree : (w : ℕ) → treeIn c k a w ≡ treeAfter way ks px py a w (length px)
+  pub holds : (w : ℕ) → Holds a w k c (treeAfter way ks px py a w (length px))
   pub next : k .terminal .0 ≡ length px + 1
   pub sized : SizedStore (length (c .rows .xs)) c

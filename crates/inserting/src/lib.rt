@@ -15,9 +15,9 @@ ghost use Rattle.tree.specs.Limits.{noNode};
 ghost use Rattle.joining.specs.Links.{links};
 ghost use Rattle.joining.specs.Store.{rowsOf, store, setRow, SizedRows};
 ghost use Rattle.joining.specs.Standing.{Standing, Anything};
-ghost use Rattle.boxes.specs.Covering.{Room};
+ghost use Rattle.search.specs.Boxes.{BoxRoom};
 ghost use Rattle.inserting.specs.Insert.{InsertedSimple, Asked, Covered};
-ghost use Rattle.inserting.specs.Route.{sourceRow, queryAt, Routable, Routed};
+ghost use Rattle.inserting.specs.Route.{sourceRow, queryAt, Routable, RoutedColumns};
 
 // How a terminal finds its place: at the closest node, or by the search.
 pub enum Way {
@@ -78,7 +78,7 @@ fn insert_terminal(
     a: Query,
     ks: &[i32],
 ) -> Counts
-    requires { ⌜ Standing (Asked way a (now lows) (now highs)) 2 (a .point) k (store (rowsOf (now xs) (now ys) (now path) (now parent) (now kind) (now number)) (links (now last) (now prev) (now next))) × Room (length (now xs)) (now lows) (now highs) ⌝ }
+    requires { ⌜ Standing (Asked way a (now lows) (now highs)) 2 (a .point) k (store (rowsOf (now xs) (now ys) (now path) (now parent) (now kind) (now number)) (links (now last) (now prev) (now next))) × BoxRoom (length (now xs)) (now lows) (now highs) ⌝ }
     ensures { λ r. ⌜ Covered way (now (ks .entry)) a k (store (rowsOf (now (xs .entry)) (now (ys .entry)) (now (path .entry)) (now (parent .entry)) (now (kind .entry)) (now (number .entry))) (links (now (last .entry)) (now (prev .entry)) (now (next .entry)))) (now (lows .entry)) (now (highs .entry)) r (store (rowsOf (now (xs .exit)) (now (ys .exit)) (now (path .exit)) (now (parent .exit)) (now (kind .exit)) (now (number .exit))) (links (now (last .exit)) (now (prev .exit)) (now (next .exit)))) (now (lows .exit)) (now (highs .exit)) ⌝ }
 {
     let q = a.point;
@@ -142,7 +142,7 @@ fn query_at<'a>(px: &'a [i32], py: &'a [i32], i: usize, a: Query) -> Query
     requires { ⌜ (i < length (now px)) × (i < length (now py)) ⌝ }
     ensures { λ r. ⌜ r ≡ queryAt (now (px .entry)) (now (py .entry)) i a ⌝ }
 {
-    let q = search::point_at(px, py, i);
+    let q = tree::point_at(px, py, i);
     Query {
         point: q,
         limit: a.limit,
@@ -169,8 +169,8 @@ pub fn route_sorted<'a>(
     way: Way,
     a: Query,
 ) -> Counts
-    requires { ⌜ Routable (now px) (now py) a (store (rowsOf (now xs) (now ys) (now path) (now parent) (now kind) (now number)) (links (now last) (now prev) (now next))) × Room (length (now xs)) (now lows) (now highs) ⌝ }
-    ensures { λ r. ⌜ Routed way (now (ks .entry)) (now (px .entry)) (now (py .entry)) a r (store (rowsOf (now (xs .exit)) (now (ys .exit)) (now (path .exit)) (now (parent .exit)) (now (kind .exit)) (now (number .exit))) (links (now (last .exit)) (now (prev .exit)) (now (next .exit)))) ⌝ }
+    requires { ⌜ Routable (now px) (now py) a (store (rowsOf (now xs) (now ys) (now path) (now parent) (now kind) (now number)) (links (now last) (now prev) (now next))) × BoxRoom (length (now xs)) (now lows) (now highs) ⌝ }
+    ensures { λ r. ⌜ RoutedColumns way (now (ks .entry)) (now (px .entry)) (now (py .entry)) a r (store (rowsOf (now (xs .exit)) (now (ys .exit)) (now (path .exit)) (now (parent .exit)) (now (kind .exit)) (now (number .exit))) (links (now (last .exit)) (now (prev .exit)) (now (next .exit)))) ⌝ }
 {
     let s = a.point;
     store_source(xs, ys, path, parent, kind, number, last, s);

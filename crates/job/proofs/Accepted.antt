@@ -5,7 +5,7 @@ use mathlib.Core.Bool.{true, false, _&&_}
 use mathlib.Core.List.{List, [], _∷_, map, List·Memᴰ, List·Memᴰ·head, List·Memᴰ·tail}
 use Prim.Native.Nat.{ℕ, zero, suc, _≤_, _<_}
 use native.Mathlib.Omega.{arith}
-use lib.ListN.{length, getD, List·getD-append}
+use lib.ListN.{length, getD, length-map, List·getD-append}
 use lib.IntN.{ℤ, pos, negsuc, natAbs, negℤ}
 use lib.Dec.{leb}
 use lib.Signed.{leZ}
@@ -18,11 +18,11 @@ use Rattle.geometry.specs.Laws.{Within}
 use Rattle.tree.specs.Limits.{reach, mostTerminals}
 use Rattle.tree.specs.Search.{anyOf}
 use Rattle.job.specs.Job.{Job, accepted, coordinates, outside, invalidKeepout, terminalsOf, sourceOf, jobOf, readJob}
-use Rattle.job.specs.Reading.{filled, packed, numberOf}
+use Rattle.job.specs.Reading.{filled, packed, refusalNumber}
 use Rattle.job.specs.Accepted.{Valid, Accepted, AcceptedInMemory}
 use Rattle.job.proofs.Any.{or-no, none-of}
 use Rattle.job.proofs.Verdict.{passed, few-of}
-use Rattle.job.proofs.Packing.{map-length, terminals-length, keepouts-length}
+use Rattle.job.proofs.Packing.{terminals-length, keepouts-length}
 
 -- ---- one point, one keepout
 near : (M : ℕ) (z : ℤ) → inside (record { lb = negℤ (pos M); ub = pos M }) z ≡ true → natAbs z ≤ M
@@ -44,7 +44,7 @@ unfolding invalidKeepout
 valid k e = let h = or-no (invalid (k .xcoord)) (invalid (k .ycoord)) e in record { xcoord = h .0; ycoord = h .1 }
 
 -- ---- the job
-accepted-of : (b : List ℕ) → numberOf (readJob b) ≡ 0 → Accepted (jobOf b)
+accepted-of : (b : List ℕ) → refusalNumber (readJob b) ≡ 0 → Accepted (jobOf b)
 accepted-of b e =
     let p = passed b e in
     let few = few-of b (p .few) in
@@ -60,7 +60,7 @@ accepted-of b e =
 -- every job that is read
 pub accepted-job : (b : List ℕ) {j : Job} → readJob b ≡ accepted j → Accepted j
 accepted-job b {j} e =
-    let z : numberOf (readJob b) ≡ 0 = ap numberOf e in
+    let z : refusalNumber (readJob b) ≡ 0 = ap refusalNumber e in
     let same : jobOf b ≡ j = same-job (sym (passed b z .is) ∙ e) in
     subst Accepted same (accepted-of b z)
   where
@@ -70,7 +70,7 @@ accepted-job b {j} e =
 -- ---- the job in memory
 -- a number of a column that was filled up
 getD-filled : (m : ℕ) (g : Point → ℤ) (l : List Point) (i : ℕ) → i < length l → getD (filled m (map g l)) i (pos 0) ≡ g (getD l i origin)
-getD-filled m g l i h = List·getD-append (map g l) _ (pos 0) i (omega (arith, map-length g l)) ∙ each l i h
+getD-filled m g l i h = List·getD-append (map g l) _ (pos 0) i (omega (arith, length-map l g)) ∙ each l i h
   where
     each : (l : List Point) (i : ℕ) → i < length l → getD (map g l) i (pos 0) ≡ g (getD l i origin)
     each [] i h = absurd (omega arith)

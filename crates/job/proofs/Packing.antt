@@ -1,19 +1,19 @@
 -- A job in memory. The columns that the code reads, of numbers a stride apart, are those of `packed`;
 -- and what stands in memory gives the job's terminals and keepouts again.
 use mathlib.Core.Path.{_≡_, refl, sym, ap, _∙_}
-use mathlib.Core.List.{List, [], _∷_, _++_, map}
+use mathlib.Core.List.{List, [], _∷_, _++_}
 use Prim.Native.Nat.{ℕ, zero, suc, _+_, _-_, _*_, _≤_}
 use native.Mathlib.Omega.{arith}
-use lib.ListN.{length, take, drop, replicate, length-append, length-replicate}
+use lib.ListN.{length, take, drop, replicate, length-append, length-replicate, length-map}
 use lib.Seq.{take-at}
 use lib.IntN.{ℤ, pos}
 use Rattle.geometry.specs.declared.Point.{Point}
 use Rattle.geometry.specs.declared.Rectangle.{Rectangle}
 use Rattle.wire.specs.Fields.{int32}
-use Rattle.tree.specs.Memory.{keepoutsOf}
+use Rattle.tree.specs.Memory.{pointsOf, keepoutsOf}
 use Rattle.job.specs.Layout.{row, headerSize, terminalSize, keepoutSize, keepoutsAt}
-use Rattle.job.specs.Job.{Job, pointAt, rectangleAt, terminalCount, keepoutCount, terminalsOf, keepoutsIn}
-use Rattle.job.specs.Reading.{filled, xcoords, ycoords, flat, pointsOf, packed, unpacked}
+use Rattle.job.specs.Job.{Job, pointFrom, rectangleFrom, terminalCount, keepoutCount, terminalsOf, keepoutsIn}
+use Rattle.job.specs.Reading.{filled, xcoords, ycoords, flat, packed, unpacked}
 use Rattle.job.proofs.Row.{row-length, row-map, row-shift}
 
 -- ---- what the code reads
@@ -31,20 +31,20 @@ module _ (m : ℕ) (b : List ℕ) (w at n : ℕ) {l : List ℤ} where
 
 module _ (b : List ℕ) where
   pub terminals-length : length (terminalsOf b) ≡ terminalCount b
-  terminals-length = row-length (pointAt b) terminalSize headerSize (terminalCount b)
+  terminals-length = row-length (pointFrom b) terminalSize headerSize (terminalCount b)
 
   pub keepouts-length : length (keepoutsIn b) ≡ keepoutCount b
-  keepouts-length = row-length (rectangleAt b) keepoutSize (keepoutsAt (terminalCount b)) (keepoutCount b)
+  keepouts-length = row-length (rectangleFrom b) keepoutSize (keepoutsAt (terminalCount b)) (keepoutCount b)
 
   pub xs-read : row (int32 b) terminalSize headerSize (terminalCount b) ≡ xcoords (terminalsOf b)
-  xs-read = sym (row-map (pointAt b) terminalSize (λ p. p .xcoord) headerSize (terminalCount b))
+  xs-read = sym (row-map (pointFrom b) terminalSize (λ p. p .xcoord) headerSize (terminalCount b))
 
   pub ys-read : row (int32 b) terminalSize (headerSize + 4) (terminalCount b) ≡ ycoords (terminalsOf b)
   ys-read =
-      sym (row-map (pointAt b) terminalSize (λ p. p .ycoord) headerSize (terminalCount b) ∙ row-shift (int32 b) terminalSize 4 headerSize (terminalCount b))
+      sym (row-map (pointFrom b) terminalSize (λ p. p .ycoord) headerSize (terminalCount b) ∙ row-shift (int32 b) terminalSize 4 headerSize (terminalCount b))
 
   -- n keepouts are 4 n numbers
-  flat-read : (at n : ℕ) → row (int32 b) 4 at (4 * n) ≡ flat (row (rectangleAt b) keepoutSize at n)
+  flat-read : (at n : ℕ) → row (int32 b) 4 at (4 * n) ≡ flat (row (rectangleFrom b) keepoutSize at n)
   unfolding flat row
   flat-read at zero = refl
   flat-read at (suc n) =
@@ -59,12 +59,12 @@ module _ (b : List ℕ) where
   keepouts-read = flat-read (keepoutsAt (terminalCount b)) (keepoutCount b)
 
 -- ---- the job again, from what stands in memory
-points-back : (ps : List Point) → pointsOf (xcoords ps) (ycoords ps) ≡ ps
+pub points-back : (ps : List Point) → pointsOf (xcoords ps) (ycoords ps) ≡ ps
 unfolding pointsOf
 points-back [] = refl
 points-back (p ∷ ps) = ap (λ (r : List Point). p ∷ r) (points-back ps)
 
-rectangles-back : (ks : List Rectangle) → keepoutsOf (flat ks) ≡ ks
+pub rectangles-back : (ks : List Rectangle) → keepoutsOf (flat ks) ≡ ks
 unfolding flat keepoutsOf
 rectangles-back [] = refl
 rectangles-back (k ∷ ks) = ap (λ (r : List Rectangle). k ∷ r) (rectangles-back ks)
@@ -74,20 +74,16 @@ unfolding flat
 flat-length [] = refl
 flat-length (k ∷ ks) = omega (arith, flat-length ks)
 
-pub map-length : (g : Point → ℤ) (ps : List Point) → length (map g ps) ≡ length ps
-map-length g [] = refl
-map-length g (p ∷ ps) = ap suc (map-length g ps)
-
 -- a column that has room is as long as it is to be
 pub filled-length : (m : ℕ) (l : List ℤ) → length l ≤ m → length (filled m l) ≡ m
 filled-length m l h = simp (length-append, length-replicate) (omega arith)
 
 module _ (j : Job) where
   pub xs-back : take (packed j .«terminal_count») (packed j .«terminal_xs») ≡ xcoords (j .terminals)
-  xs-back = take-at (xcoords (j .terminals)) _ _ (map-length _ (j .terminals))
+  xs-back = take-at (xcoords (j .terminals)) _ _ (length-map (j .terminals) _)
 
   pub ys-back : take (packed j .«terminal_count») (packed j .«terminal_ys») ≡ ycoords (j .terminals)
-  ys-back = take-at (ycoords (j .terminals)) _ _ (map-length _ (j .terminals))
+  ys-back = take-at (ycoords (j .terminals)) _ _ (length-map (j .terminals) _)
 
   pub flat-back : take (4 * packed j .«keepout_count») (packed j .keepouts) ≡ flat (j .keepouts)
   flat-back = take-at (flat (j .keepouts)) _ _ (flat-length (j .keepouts))

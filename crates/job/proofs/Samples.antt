@@ -12,7 +12,7 @@ use Rattle.tree.specs.Route.{times}
 use Rattle.wire.specs.Fields.{le, twos32, leBytes, bits32, int32Bytes}
 use Rattle.job.specs.Layout.{row}
 use Rattle.job.specs.Job.{accepted, modeOf, outside, invalidKeepout, readJob}
-use Rattle.job.specs.Reading.{numberOf}
+use Rattle.job.specs.Reading.{refusalNumber}
 use Rattle.job.specs.Alike.{AlikeButOrder}
 use Rattle.job.specs.declared.Mode.the-variants.{Constraints}
 
@@ -49,7 +49,7 @@ abbrev high : ℤ
 high = pos 1000000
 
 refusals : List (List ℕ) → List ℕ
-refusals = map (λ (b : List ℕ). numberOf (readJob b))
+refusals = map (λ (b : List ℕ). refusalNumber (readJob b))
 
 -- accepted: no terminals and no keepouts; any multiplier in mode 2; the farthest coordinates; a keepout's equal bounds, and its widest
 passing : refusals

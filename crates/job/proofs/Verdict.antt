@@ -9,7 +9,7 @@ use lib.Dec.{ltb}
 use borrow.Author.Tests.{ltb-false}
 use Rattle.tree.specs.Limits.{mostTerminals, mostKeepouts}
 use Rattle.job.specs.Job.{Answer, refused, accepted, terminalCount, keepoutCount, short, tooMany, wrongLength, wrongOffset, wrongMode, farOut, badKeepout, jobOf, readJob}
-use Rattle.job.specs.Reading.{numberOf}
+use Rattle.job.specs.Reading.{refusalNumber}
 use Rattle.job.proofs.Any.{or-no}
 
 pub pass : {t : Bool} (x y : Answer) → t ≡ false → cond t x y ≡ y
@@ -19,8 +19,8 @@ pub stop : {t : Bool} (x y : Answer) → t ≡ true → cond t x y ≡ x
 stop x y e = ap (λ (t : Bool). cond t x y) e
 
 -- the test that decides, after others that were passed, refuses with n
-pub gives : (n : ℕ) (y : Answer) {a : Answer} {t : Bool} → a ≡ cond t (refused n) y → t ≡ true → n ≡ numberOf a
-gives n y e h = ap numberOf (sym (e ∙ stop (refused n) y h))
+pub gives : (n : ℕ) (y : Answer) {a : Answer} {t : Bool} → a ≡ cond t (refused n) y → t ≡ true → n ≡ refusalNumber a
+gives n y e h = ap refusalNumber (sym (e ∙ stop (refused n) y h))
 
 -- the answer of the tests from each on, where those before it are passed
 module _ (b : List ℕ) where
@@ -49,11 +49,11 @@ pub record Passed (b : List ℕ) : Type 0 where
   pub valid : badKeepout b ≡ false
   pub is : readJob b ≡ accepted (jobOf b)
 
-passes : (t : Bool) (n : ℕ) (y : Answer) → numberOf (cond t (refused (suc n)) y) ≡ 0 → (t ≡ false) × (numberOf y ≡ 0)
+passes : (t : Bool) (n : ℕ) (y : Answer) → refusalNumber (cond t (refused (suc n)) y) ≡ 0 → (t ≡ false) × (refusalNumber y ≡ 0)
 passes false n y e = (refl, e)
 passes true n y e = absurd (omega arith)
 
-pub passed : (b : List ℕ) → numberOf (readJob b) ≡ 0 → Passed b
+pub passed : (b : List ℕ) → refusalNumber (readJob b) ≡ 0 → Passed b
 unfolding readJob
 passed b e =
     let p1 = passes (short b) 0 (from-2 b) e in
@@ -70,7 +70,7 @@ passed b e =
       is = pass _ _ (p1 .0) ∙ pass _ _ (p2 .0) ∙ pass _ _ (pl .0) ∙ pass _ _ (p3 .0) ∙ pass _ _ (p4 .0) ∙ pass _ _ (p5 .0) ∙ pass _ _ (p6 .0);
     }
 
-pub refused-is : (a : Answer) → (numberOf a ≡ 0 → ⊥) → a ≡ refused (numberOf a)
+pub refused-is : (a : Answer) → (refusalNumber a ≡ 0 → ⊥) → a ≡ refused (refusalNumber a)
 refused-is (refused n) h = refl
 refused-is (accepted j) h = absurd (h refl)
 

@@ -30,14 +30,14 @@ pub data Answer : Type 0 where
 
 -- ---- the fields
 -- "A terminal is x, y i32; a keepout is lower x, upper x, lower y, upper y i32."
-abbrev pub pointAt : List ℕ → ℕ → Point
-pointAt b at = record { xcoord = int32 b at; ycoord = int32 b (at + 4) }
+abbrev pub pointFrom : List ℕ → ℕ → Point
+pointFrom b at = record { xcoord = int32 b at; ycoord = int32 b (at + 4) }
 
-abbrev pub intervalAt : List ℕ → ℕ → Interval
-intervalAt b at = record { lb = int32 b at; ub = int32 b (at + 4) }
+abbrev pub intervalFrom : List ℕ → ℕ → Interval
+intervalFrom b at = record { lb = int32 b at; ub = int32 b (at + 4) }
 
-abbrev pub rectangleAt : List ℕ → ℕ → Rectangle
-rectangleAt b at = record { xcoord = intervalAt b at; ycoord = intervalAt b (at + 8) }
+abbrev pub rectangleFrom : List ℕ → ℕ → Rectangle
+rectangleFrom b at = record { xcoord = intervalFrom b at; ycoord = intervalFrom b (at + 8) }
 
 -- "T u16, K u16, terminals' offset u32, keepouts' offset u32, mode u8, three spare bytes, multiplier as u64 bits of an f64, source x, y i32"
 module _ (b : List ℕ) where
@@ -63,14 +63,14 @@ module _ (b : List ℕ) where
   multiplierBits = le64 b 16
 
   abbrev pub sourceOf : Point
-  sourceOf = pointAt b 24
+  sourceOf = pointFrom b 24
 
   -- then the terminals and the keepouts
   abbrev pub terminalsOf : List Point
-  terminalsOf = row (pointAt b) terminalSize headerSize terminalCount
+  terminalsOf = row (pointFrom b) terminalSize headerSize terminalCount
 
   abbrev pub keepoutsIn : List Rectangle
-  keepoutsIn = row (rectangleAt b) keepoutSize (keepoutsAt terminalCount) keepoutCount
+  keepoutsIn = row (rectangleFrom b) keepoutSize (keepoutsAt terminalCount) keepoutCount
 
 -- "The mode is read as simple, with Steiners, or with constraints and their multiplier": "0 simple, 1 Steiner points, 2 constraints"
 -- "Any 64 bits are a multiplier."

@@ -7,25 +7,19 @@ use Rattle.geometry.specs.declared.Point.{Point}
 use Rattle.geometry.specs.declared.Rectangle.{Rectangle}
 use Rattle.geometry.specs.Geometry.{origin}
 use Rattle.tree.specs.Limits.{mostTerminals, mostKeepouts}
-use Rattle.tree.specs.Memory.{keepoutsOf}
+use Rattle.tree.specs.Memory.{pointsOf, keepoutsOf}
 use Rattle.job.specs.Job.{Job, Answer, refused, accepted}
 use Rattle.job.specs.declared.RoutingJob.{RoutingJob}
 use Rattle.job.specs.declared.Reading.{Reading}
 use Rattle.job.specs.declared.ReadAnswer.the-variants.{Refused, Accepted}
 use Rattle.job.specs.declared.Mode.the-variants.{Simple}
 
--- ---- points in two columns, rectangles in one, and back
+-- ---- points in two columns, rectangles in one
 abbrev pub xcoords : List Point → List ℤ
 xcoords = map (λ (p : Point). p .xcoord)
 
 abbrev pub ycoords : List Point → List ℤ
 ycoords = map (λ (p : Point). p .ycoord)
-
--- as many as the shorter column has
-unfoldable pub pointsOf : List ℤ → List ℤ → List Point
-pointsOf [] l = []
-pointsOf (x ∷ k) [] = []
-pointsOf (x ∷ k) (y ∷ l) = record { xcoord = x; ycoord = y } ∷ pointsOf k l
 
 -- four numbers each: lower x, upper x, lower y, upper y
 unfoldable pub flat : List Rectangle → List ℤ
@@ -69,6 +63,6 @@ readingOf (refused n) = record { answer = Refused n; job = packed noJob }
 readingOf (accepted j) = record { answer = Accepted; job = packed j }
 
 -- the number of a refusal; 0 where there is none
-abbrev pub numberOf : Answer → ℕ
-numberOf (refused n) = n
-numberOf (accepted j) = 0
+abbrev pub refusalNumber : Answer → ℕ
+refusalNumber (refused n) = n
+refusalNumber (accepted j) = 0

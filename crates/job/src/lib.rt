@@ -15,9 +15,9 @@ ghost use Rattle.tree.specs.Limits.{mostTerminals, mostKeepouts};
 ghost use Rattle.tree.specs.Search.{anyOf};
 ghost use Rattle.wire.specs.Fields.{int32};
 ghost use Rattle.job.specs.Layout.{row, terminalSize};
-ghost use Rattle.job.specs.Job.{pointAt, intervalAt, rectangleAt, terminalCount, keepoutCount, modeByte, spareBytes, multiplierBits, sourceOf};
+ghost use Rattle.job.specs.Job.{pointFrom, intervalFrom, rectangleFrom, terminalCount, keepoutCount, modeByte, spareBytes, multiplierBits, sourceOf};
 ghost use Rattle.job.specs.Job.{modeOf, nonzero, coordinates, outside, invalidKeepout, tooMany, wrongOffset, wrongMode, farOut, badKeepout, jobOf, readJob};
-ghost use Rattle.job.specs.Reading.{filled, packed, noJob, readingOf, numberOf};
+ghost use Rattle.job.specs.Reading.{filled, packed, noJob, readingOf, refusalNumber};
 
 // The lengths of the header, a terminal and a keepout.
 const HEADER_SIZE: usize = 32;
@@ -69,9 +69,9 @@ fn keepout_count(s: &[u8]) -> u16
     wire::u16_at(s, 2)
 }
 
-fn point_at(s: &[u8], at: usize) -> Point
+fn point_from(s: &[u8], at: usize) -> Point
     requires { ⌜ at + 4 < 2 ^ 64 ⌝ }
-    ensures { λ r. ⌜ r ≡ pointAt (now (s .entry)) at ⌝ }
+    ensures { λ r. ⌜ r ≡ pointFrom (now (s .entry)) at ⌝ }
 {
     Point {
         xcoord: wire::i32_at(s, at),
@@ -79,9 +79,9 @@ fn point_at(s: &[u8], at: usize) -> Point
     }
 }
 
-fn interval_at(s: &[u8], at: usize) -> Interval
+fn interval_from(s: &[u8], at: usize) -> Interval
     requires { ⌜ at + 4 < 2 ^ 64 ⌝ }
-    ensures { λ r. ⌜ r ≡ intervalAt (now (s .entry)) at ⌝ }
+    ensures { λ r. ⌜ r ≡ intervalFrom (now (s .entry)) at ⌝ }
 {
     Interval {
         lb: wire::i32_at(s, at),
@@ -89,20 +89,20 @@ fn interval_at(s: &[u8], at: usize) -> Interval
     }
 }
 
-fn rectangle_at(s: &[u8], at: usize) -> Rectangle
+fn rectangle_from(s: &[u8], at: usize) -> Rectangle
     requires { ⌜ at + 12 < 2 ^ 64 ⌝ }
-    ensures { λ r. ⌜ r ≡ rectangleAt (now (s .entry)) at ⌝ }
+    ensures { λ r. ⌜ r ≡ rectangleFrom (now (s .entry)) at ⌝ }
 {
     Rectangle {
-        xcoord: interval_at(s, at),
-        ycoord: interval_at(s, at + 8),
+        xcoord: interval_from(s, at),
+        ycoord: interval_from(s, at + 8),
     }
 }
 
 fn source_of(s: &[u8]) -> Point
     ensures { λ r. ⌜ r ≡ sourceOf (now (s .entry)) ⌝ }
 {
-    point_at(s, 24)
+    point_from(s, 24)
 }
 
 // ---- the tests: true refuses
@@ -185,7 +185,7 @@ fn far_out(s: &[u8]) -> bool
     let t = terminal_count(s) as usize;
     let mut i: usize = 0;
     while i < t {
-        let p = point_at(s, HEADER_SIZE + TERMINAL_SIZE * i);
+        let p = point_from(s, HEADER_SIZE + TERMINAL_SIZE * i);
         if outside(p) {
             return true;
         }
@@ -214,7 +214,7 @@ fn bad_keepout(s: &[u8]) -> bool
     let k = keepout_count(s) as usize;
     let mut i: usize = 0;
     while i < k {
-        let r = rectangle_at(s, from + KEEPOUT_SIZE * i);
+        let r = rectangle_from(s, from + KEEPOUT_SIZE * i);
         if invalid_keepout(r) {
             return true;
         }
@@ -225,35 +225,35 @@ fn bad_keepout(s: &[u8]) -> bool
 
 // The number of the first test that refuses; 0 where none does. Test 1 has a part before test 2 and one after it.
 fn refusal(s: &[u8]) -> u8
-    ensures { λ r. ⌜ r ≡ numberOf (readJob (now (s .entry))) ⌝ }
+    ensures { λ r. ⌜ r ≡ refusalNumber (readJob (now (s .entry))) ⌝ }
 {
     let len = s.len();
     let t = terminal_count(s) as usize;
     let k = keepout_count(s) as usize;
     let size = HEADER_SIZE + TERMINAL_SIZE * t + KEEPOUT_SIZE * k;
     if len < HEADER_SIZE {
-        return 1;
+        return tree::WRONG_LENGTH;
     }
     if MOST_TERMINALS < t {
-        return 2;
+        return tree::TOO_MANY;
     }
     if MOST_KEEPOUTS < k {
-        return 2;
+        return tree::TOO_MANY;
     }
     if len != size {
-        return 1;
+        return tree::WRONG_LENGTH;
     }
     if wrong_offset(s) {
-        return 3;
+        return tree::WRONG_OFFSET;
     }
     if wrong_mode(s) {
-        return 4;
+        return tree::WRONG_MODE;
     }
     if far_out(s) {
-        return 5;
+        return tree::OUTSIDE;
     }
     if bad_keepout(s) {
-        return 6;
+        return tree::BAD_KEEPOUT;
     }
     0
 }

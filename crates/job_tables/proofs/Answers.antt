@@ -5,12 +5,13 @@ use mathlib.Core.Path.{_≡_, refl, sym, ap, subst, _∙_}
 use mathlib.Core.List.{List, List·Memᴰ·not-nil}
 use native.Mathlib.Omega.{arith}
 use Rattle.geometry.specs.Geometry.{origin}
+use Rattle.tree.specs.Memory.{pointsOf}
 use Rattle.tree.specs.Route.{inserts}
 use Rattle.job.specs.declared.Reading.{Reading}
 use Rattle.job.specs.declared.ReadAnswer.{ReadAnswer}
 use Rattle.job.specs.Job as J
 use Rattle.job.specs.Job.{Job, Answer, readJob}
-use Rattle.job.specs.Reading.{pointsOf, packed, unpacked, noJob, readingOf}
+use Rattle.job.specs.Reading.{packed, unpacked, noJob, readingOf}
 use Rattle.job.specs.Accepted.{Accepted}
 use Rattle.job.proofs.Packing.{job-back}
 use Rattle.job.proofs.Accepted.{accepted-job}
@@ -19,7 +20,7 @@ use Rattle.nodes.specs.Table.{tableTree, Tabled}
 use Rattle.route.specs.Routing.{Routing, refused, routed, treeFor, routingOf, routeOf}
 use Rattle.job_tables.specs.declared.RoutedTable.{RoutedTable}
 use Rattle.job_tables.specs.Jobs.{Sound}
-use Rattle.job_tables.specs.Tables.{begun, answerOf, Tables}
+use Rattle.job_tables.specs.Tables.{begun, routingFrom, Tables}
 
 -- ---- the job that was read
 in-memory : (j : Job) → Accepted j → Sound (packed j)
@@ -45,11 +46,11 @@ module _ (b : List ℕ) {r : Reading} (e : r ≡ readingOf (readJob b)) where
 
   -- ---- its answer, beside the table of its tree
   module _ (t : Table) (is : tableTree t ≡ treeFor (unpacked (r .job))) where
-    answer-is : answerOf (r .answer) (tableTree t) ≡ routeOf b
+    answer-is : routingFrom (r .answer) (tableTree t) ≡ routeOf b
     unfolding routeOf
-    answer-is = ap (answerOf (r .answer)) is ∙ (λ i. answerOf (e i .answer) (treeFor (unpacked (e i .job)))) ∙ by (readJob b)
+    answer-is = ap (routingFrom (r .answer)) is ∙ (λ i. routingFrom (e i .answer) (treeFor (unpacked (e i .job)))) ∙ by (readJob b)
       where
-        by : (a : Answer) → answerOf (readingOf a .answer) (treeFor (unpacked (readingOf a .job))) ≡ routingOf a
+        by : (a : Answer) → routingFrom (readingOf a .answer) (treeFor (unpacked (readingOf a .job))) ≡ routingOf a
         by (J.refused n) = refl
         by (J.accepted j) = ap (λ (k : Job). routed (treeFor k)) (job-back j)
 
@@ -66,5 +67,5 @@ module _ (b : List ℕ) {r : Reading} (e : r ≡ readingOf (readJob b)) where
 
 -- ---- for callers
 -- the routing, by the answer's case
-pub routing-is : {x : Routing} {r : RoutedTable} → Tables x r → {a : ReadAnswer} → r .answer ≡ a → answerOf a (tableTree (r .table)) ≡ x
-routing-is {r = r} v e = sym (ap (λ (a : ReadAnswer). answerOf a (tableTree (r .table))) e) ∙ v .is
+pub routing-is : {x : Routing} {r : RoutedTable} → Tables x r → {a : ReadAnswer} → r .answer ≡ a → routingFrom a (tableTree (r .table)) ≡ x
+routing-is {r = r} v e = sym (ap (λ (a : ReadAnswer). routingFrom a (tableTree (r .table))) e) ∙ v .is

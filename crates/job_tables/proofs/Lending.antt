@@ -1,32 +1,29 @@
 -- What an accepted job in memory lends to the router, and that its plan can be packed.
-use Prim.Native.Nat.{ℕ, _+_, _*_, _^_, _≤_, _<_}
-use mathlib.Core.Path.{_≡_, refl, sym, ap, subst, _∙_}
+use Prim.Native.Nat.{ℕ, _*_, _≤_, _<_}
+use mathlib.Core.Path.{_≡_, sym, ap, subst, _∙_}
 use mathlib.Core.List.{List}
 use native.Mathlib.Omega.{arith}
 use lib.ListN.{length, take, length-map}
 use lib.Seq.{length-take-le, getD-take}
 use lib.IntN.{ℤ, pos}
 use Rattle.geometry.specs.declared.Point.{Point}
-use Rattle.geometry.specs.declared.Rectangle.{Rectangle}
 use Rattle.geometry.specs.Laws.{Within}
 use Rattle.tree.specs.Limits.{reach, mostTerminals, mostKeepouts}
-use Rattle.tree.specs.Tree.{Tree}
 use Rattle.tree.specs.Route.{route}
 use Rattle.job.specs.declared.RoutingJob.{RoutingJob}
 use Rattle.job.specs.Job.{Job}
-use Rattle.job.specs.Reading.{filled, xcoords, ycoords, flat, packed, unpacked}
-use Rattle.job.proofs.Packing.{filled-length, flat-length, xs-back, ys-back, flat-back}
+use Rattle.job.specs.Reading.{xcoords, ycoords, flat, packed, unpacked}
+use Rattle.job.proofs.Packing.{filled-length, flat-length, xs-back, ys-back, flat-back, points-back, rectangles-back}
 use Rattle.job.specs.Accepted.{AcceptedInMemory}
 use Rattle.job.proofs.Accepted.{in-memory}
-use Rattle.tree.specs.Memory.{keepoutsOf}
-use Rattle.sorting.specs.Points.{pt, Even}
+use Rattle.tree.specs.Memory.{pointAt, pointsOf, keepoutsOf}
+use Rattle.sorting.specs.Points.{Even}
 use Rattle.nodes.specs.declared.Table.{Table}
 use Rattle.nodes.specs.Table.{tableTree, Tabled}
-use Rattle.route.specs.Plan.{points, Plannable, Planned}
+use Rattle.route.specs.Plan.{Plannable, Planned}
 use Rattle.route.specs.Routing.{wayOf, treeFor}
 use Rattle.job_tables.specs.Jobs.{Sound}
 use Rattle.job_tables.proofs.Plans.{plan-tabled}
-use Rattle.job_tables.proofs.Columns.{points-are, keepouts-are, coords-length}
 
 module _ (j : RoutingJob) (v : Sound j) where
   abbrev J : Job
@@ -58,7 +55,7 @@ module _ (j : RoutingJob) (v : Sound j) where
   keepouts-few = omega (arith, keepouts-is, v .accepted .few-keepouts)
 
   xs-length : length (j .«terminal_xs») ≡ mostTerminals
-  xs-length = ap (λ (x : RoutingJob). length (x .«terminal_xs»)) (v .packing) ∙ filled-length mostTerminals (xcoords ts) (omega (arith, coords-length ts, v .accepted .few-terminals))
+  xs-length = ap (λ (x : RoutingJob). length (x .«terminal_xs»)) (v .packing) ∙ filled-length mostTerminals (xcoords ts) (omega (arith, length-map ts (λ (p : Point). p .xcoord), v .accepted .few-terminals))
 
   ys-length : length (j .«terminal_ys») ≡ mostTerminals
   ys-length = ap (λ (x : RoutingJob). length (x .«terminal_ys»)) (v .packing) ∙ filled-length mostTerminals (ycoords ts) (omega (arith, length-map ts (λ (p : Point). p .ycoord), v .accepted .few-terminals))
@@ -92,12 +89,12 @@ module _ (j : RoutingJob) (v : Sound j) where
   ys-are = (λ i. take (v .packing i .«terminal_count») (v .packing i .«terminal_ys»)) ∙ ys-back J
 
   ks-are : keepoutsOf ks ≡ J .keepouts
-  ks-are = ap keepoutsOf ((λ i. take (4 * v .packing i .«keepout_count») (v .packing i .keepouts)) ∙ flat-back J) ∙ keepouts-are (J .keepouts)
+  ks-are = ap keepoutsOf ((λ i. take (4 * v .packing i .«keepout_count») (v .packing i .keepouts)) ∙ flat-back J) ∙ rectangles-back (J .keepouts)
 
   in-columns : AcceptedInMemory j
   in-columns = subst AcceptedInMemory (sym (v .packing)) (in-memory J (v .accepted))
 
-  point-is : (k : ℕ) → k < j .«terminal_count» → pt px py k ≡ pt (j .«terminal_xs») (j .«terminal_ys») k
+  point-is : (k : ℕ) → k < j .«terminal_count» → pointAt px py k ≡ pointAt (j .«terminal_xs») (j .«terminal_ys») k
   point-is k h = λ i. record { xcoord = getD-take (j .«terminal_count») (j .«terminal_xs») k (pos 0) h i; ycoord = getD-take (j .«terminal_count») (j .«terminal_ys») k (pos 0) h i }
 
   even : Even px py
@@ -117,7 +114,7 @@ module _ (j : RoutingJob) (v : Sound j) where
 
   module _ (t : Table) (p : Planned ks px py (j .source) (j .mode) t) where
     pub planned-is : tableTree t ≡ treeFor J
-    planned-is = p .tree ∙ (λ i. route (wayOf (j .mode)) (j .source) (((λ k. points (xs-are k) (ys-are k)) ∙ points-are ts) i) (ks-are i))
+    planned-is = p .tree ∙ (λ i. route (wayOf (j .mode)) (j .source) (((λ k. pointsOf (xs-are k) (ys-are k)) ∙ points-back ts) i) (ks-are i))
 
     pub tabled : Tabled t
     tabled = plan-tabled t p (omega (arith, part-xs, terminals-few))

@@ -1,4 +1,3 @@
-pub mod Columns
 pub mod Plans
 pub mod Lending
 pub mod Answers

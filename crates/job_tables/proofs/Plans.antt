@@ -1,5 +1,5 @@
 -- A plan is a table that keeps its tree; and the plan for no terminals is the tree of the source alone.
-use Prim.Native.Nat.{ℕ, _≤_}
+use Prim.Native.Nat.{_≤_}
 use mathlib.Core.Path.{_≡_, refl, _∙_}
 use mathlib.Core.List.{List, []}
 use native.Mathlib.Omega.{arith}
@@ -7,10 +7,10 @@ use lib.ListN.{length}
 use lib.IntN.{ℤ}
 use Rattle.geometry.specs.declared.Point.{Point}
 use Rattle.tree.specs.Limits.{mostTerminals}
+use Rattle.tree.specs.Memory.{pointsOf}
 use Rattle.tree.specs.Route.{inserts}
 use Rattle.job.specs.declared.Mode.{Mode}
 use Rattle.job.specs.declared.Mode.the-variants.{Simple}
-use Rattle.sorting.specs.Points.{seg}
 use Rattle.joining.specs.Store.{nodeOf}
 use Rattle.joining.proofs.Reading.{length-upto}
 use Rattle.nodes.specs.declared.Table.{Table}
@@ -35,5 +35,5 @@ module _ {ks px py : List ℤ} {s : Point} {mode : Mode} (t : Table) (p : Planne
 
 -- ---- no terminals
 pub alone-is : {ks : List ℤ} {s : Point} (t : Table) → Planned ks [] [] s Simple t → tableTree t ≡ begun s
-unfolding seg inserts
+unfolding pointsOf inserts
 alone-is t p = p .tree ∙ refl

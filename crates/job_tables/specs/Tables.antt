@@ -18,12 +18,12 @@ abbrev pub begun : Point → Tree
 begun s = rooted s (pos noLimit) 0 noLimit
 
 -- the paper's number, or the tree
-abbrev pub answerOf : ReadAnswer → Tree → Routing
-answerOf (Refused n) t = refused n
-answerOf Accepted t = routed t
+abbrev pub routingFrom : ReadAnswer → Tree → Routing
+routingFrom (Refused n) t = refused n
+routingFrom Accepted t = routed t
 
 -- what is given is the answer x; with a refusal stands the tree of a source at (0, 0)
 pub record Tables (x : Routing) (r : RoutedTable) : Type 0 where
-  pub is : answerOf (r .answer) (tableTree (r .table)) ≡ x
+  pub is : routingFrom (r .answer) (tableTree (r .table)) ≡ x
   pub beside : (n : ℕ) → x ≡ refused n → tableTree (r .table) ≡ begun origin
   pub tabled : Tabled (r .table)

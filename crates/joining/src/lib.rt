@@ -5,7 +5,7 @@ use tree::NodeIndex;
 use tree::SteinerNumber;
 use tree::TerminalNumber;
 ghost use mathlib.Core.Path.{_≡_};
-ghost use Prim.Native.Nat.{ℕ, _+_, _<_, _≤_};
+ghost use Prim.Native.Nat.{_+_, _<_, _≤_};
 ghost use lib.ListN.{length, getD, set};
 ghost use Rattle.tree.specs.Limits.{noNode, reach};
 ghost use Rattle.tree.specs.WellFormed.{newNodes};

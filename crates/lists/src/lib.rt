@@ -1,20 +1,13 @@
 // Lists of node indices of a tree that is lent as its columns, written as u16 to a lent buffer.
 use output::Answer;
 use tree::NodeIndex;
-ghost use mathlib.Core.Path.{_≡_};
 ghost use mathlib.Core.List.{[], _∷_};
-ghost use Prim.Native.Nat.{ℕ, _<_};
+ghost use Prim.Native.Nat.{_<_};
 ghost use Rattle.wire.specs.Puts.{Puts};
 ghost use Rattle.tree.specs.Measures.{pathDown, pathTo, ofKind, steinerNodes, terminalNodes};
 ghost use Rattle.joining.specs.Store.{nodesOf};
 ghost use Rattle.measures.specs.Standing.{lent, Stands};
 ghost use Rattle.output.specs.Answer.{Answers};
-
-const LAST_PLACE: usize = 18446744073709551615;
-
-const STEINER: u8 = 1;
-
-const TERMINAL: u8 = 2;
 
 // An index past the end is left out and still counts, so one writer both measures and writes.
 fn put_index(out: &mut [u16], at: usize, v: u16) -> usize
@@ -24,7 +17,7 @@ fn put_index(out: &mut [u16], at: usize, v: u16) -> usize
         out[at] = v;
         return at + 1;
     }
-    if at < LAST_PLACE {
+    if at < wire::LAST_PLACE {
         return at + 1;
     }
     at
@@ -239,7 +232,7 @@ pub fn write_terminals<'a>(
         last,
         prev,
         n,
-        TERMINAL,
+        tree::TERMINAL,
         out,
     )
 }
@@ -269,7 +262,7 @@ pub fn write_steiner_nodes<'a>(
         last,
         prev,
         n,
-        STEINER,
+        tree::STEINER,
         out,
     )
 }

@@ -12,7 +12,7 @@ use Rattle.tree.specs.Tree.{Node, Name, source, steiner, terminal, none, at, no
 use Rattle.tree.specs.Measures.{numberOf}
 use Rattle.tree.specs.Shape as Shape
 use Rattle.tree.specs.Shape.{Given}
-use Rattle.search.specs.Walk.{pointAt}
+use Rattle.tree.specs.Memory.{pointAt}
 use Rattle.search.specs.Columns.{Has, chain, Chain, Chained}
 use Rattle.search.specs.Find.{examined}
 use Rattle.joining.specs.Store.{Columns, rowAt, nodeFrom, parentFrom, nodesOf}

@@ -13,7 +13,7 @@ use Rattle.tree.specs.Measures.{greatest, worstBelow, worst}
 use Rattle.search.specs.Columns.{Has, chain, Chained}
 use Rattle.search.proofs.Chains.{Unrolled, unroll, ended}
 use Rattle.joining.specs.Store.{Columns}
-use Rattle.search.specs.Walk.{pointAt}
+use Rattle.tree.specs.Memory.{pointAt}
 use Rattle.measures.proofs.Lent.{Read, point-read, near-read}
 use Rattle.measures.proofs.Summed.{near-by}
 

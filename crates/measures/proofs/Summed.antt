@@ -10,7 +10,7 @@ use Rattle.geometry.specs.Geometry.{dist}
 use Rattle.geometry.specs.Laws.{Within, dist-small}
 use Rattle.tree.specs.Limits.{across, noNode, reach}
 use Rattle.tree.specs.Tree.{Node, nodeAt, sumTo, toParent, edge, total}
-use Rattle.search.specs.Walk.{pointAt}
+use Rattle.tree.specs.Memory.{pointAt}
 use Rattle.joining.specs.Store.{Columns}
 use Rattle.measures.proofs.Lent.{Read, parent-none, parent-some, parent-low, point-read, near-read}
 

@@ -32,8 +32,8 @@ fn edge<'a>(
         return 0;
     }
     let k = search::wide(p);
-    let a = search::point_at(xs, ys, k);
-    let b = search::point_at(xs, ys, i);
+    let a = tree::point_at(xs, ys, k);
+    let b = tree::point_at(xs, ys, i);
     search::distance(a, b)
 }
 
@@ -86,12 +86,12 @@ fn worst_below<'a>(
         return 0;
     }
     let i = search::wide(node.0);
-    let p = search::point_at(xs, ys, i);
+    let p = tree::point_at(xs, ys, i);
     let mut longest: u32 = 0;
     let mut c = last[i];
     while c != tree::NO_NODE {
         let k = search::wide(c);
-        let q = search::point_at(xs, ys, k);
+        let q = tree::point_at(xs, ys, k);
         let below = worst_below(
             xs,
             ys,

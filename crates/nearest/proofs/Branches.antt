@@ -17,7 +17,7 @@ use Rattle.tree.proofs.Linking.{none-at, child-in}
 use Rattle.tree.proofs.Measuring.{at-inj}
 use Rattle.tree.proofs.Nearest as T
 use Rattle.search.specs.declared.Query.{Query}
-use Rattle.search.specs.Walk.{pointAt}
+use Rattle.tree.specs.Memory.{pointAt}
 use Rattle.nearest.specs.Summed.{Summed}
 use Rattle.nearest.specs.Ranks.{branchIndices, lengthBy, twiceBy, entry}
 use Rattle.nearest.specs.Sole.{SoleIn, rankIn}

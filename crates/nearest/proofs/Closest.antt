@@ -18,7 +18,7 @@ use Rattle.tree.specs.Limits.{mostNodes, reach}
 use Rattle.tree.specs.Tree.{Node, Tree, nodeAt}
 use Rattle.tree.specs.Route.{closest}
 use Rattle.tree.specs.WellFormed.{WellFormed}
-use Rattle.search.specs.Walk.{pointAt}
+use Rattle.tree.specs.Memory.{pointAt}
 use Rattle.joining.specs.Store.{Columns, SizedRows, Keeps}
 use Rattle.nearest.specs.Closest.{nodeIndices, nodeRank, Points, ClosestOf}
 use Rattle.nearest.specs.Columns.{NearPoints}

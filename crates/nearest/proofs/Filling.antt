@@ -12,7 +12,7 @@ use Rattle.geometry.specs.Geometry.{gap, dist}
 use Rattle.geometry.specs.Laws.{Within}
 use Rattle.geometry.specs.Signed.{In32, InPoint, back, home}
 use Rattle.tree.specs.Limits.{reach}
-use Rattle.search.specs.Walk.{pointAt}
+use Rattle.tree.specs.Memory.{pointAt}
 use Rattle.nearest.specs.Columns.{Distances}
 
 -- ---- one distance

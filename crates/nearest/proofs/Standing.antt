@@ -14,7 +14,7 @@ use Rattle.tree.specs.Limits.{across, noNode}
 use Rattle.tree.specs.Tree.{Node, none, at, nodeAt}
 use Rattle.tree.proofs.Linking.{parent-in}
 use Rattle.search.specs.declared.Query.{Query}
-use Rattle.search.specs.Walk.{pointAt}
+use Rattle.tree.specs.Memory.{pointAt}
 use Rattle.search.proofs.TreeWalk.{ready-sound}
 use Rattle.joining.specs.Store.{parentFrom}
 use Rattle.nearest.specs.Summed.{Summed}

@@ -8,7 +8,7 @@ use Rattle.geometry.specs.declared.Point.{Point}
 use Rattle.geometry.specs.Geometry.{dist}
 use Rattle.tree.specs.Tree.{Node, nodeAt}
 use Rattle.tree.specs.Route.{closest}
-use Rattle.search.specs.Walk.{pointAt}
+use Rattle.tree.specs.Memory.{pointAt}
 
 -- more than any index of a node, and few enough for a rank of 32 bits
 abbrev pub nodeIndices : ℕ

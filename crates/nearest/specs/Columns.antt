@@ -8,7 +8,7 @@ use Rattle.geometry.specs.declared.Point.{Point}
 use Rattle.geometry.specs.Geometry.{dist}
 use Rattle.geometry.specs.Laws.{Within}
 use Rattle.tree.specs.Limits.{reach, longestPath, mostNodes}
-use Rattle.search.specs.Walk.{pointAt}
+use Rattle.tree.specs.Memory.{pointAt}
 
 -- the i-th point and q are within the limit
 pub record NearAt (q : Point) (xs ys : List ℤ) (i : ℕ) : Type 0 where

@@ -12,7 +12,8 @@ use Rattle.tree.specs.Search.{nearestOn}
 use Rattle.search.specs.declared.Join.{Join}
 use Rattle.search.specs.declared.Query.{Query}
 use Rattle.search.specs.Branch.{joinAt}
-use Rattle.search.specs.Walk.{pointAt, viewAt}
+use Rattle.tree.specs.Memory.{pointAt}
+use Rattle.search.specs.Walk.{viewAt}
 use Rattle.nearest.specs.declared.Least.{Least}
 use Rattle.nearest.specs.declared.Nearest.{Nearest}
 use Rattle.nearest.specs.declared.Nearest.the-variants.{Alone, Unsure}

@@ -8,7 +8,7 @@ ghost use mathlib.Core.Path.{_≡_};
 ghost use Prim.Native.Nat.{_≤_, _<_, min, max};
 ghost use lib.ListN.{length, getD};
 ghost use Rattle.geometry.specs.Geometry.{dist};
-ghost use Rattle.search.specs.Walk.{pointAt};
+ghost use Rattle.tree.specs.Memory.{pointAt};
 ghost use Rattle.search.specs.Columns.{InReach};
 ghost use Rattle.search.specs.Find.{Joins};
 ghost use Rattle.nearest.specs.Summed.{Summed};

@@ -1,13 +1,13 @@
 -- The loop that packs rows into nodes: its start, a turn, its end. The nodes before i are the rows'.
-use Prim.Native.Nat.{ℕ, zero, suc, _+_, _≤_, _<_}
-use mathlib.Core.Path.{_≡_, refl, sym, ap, subst, _∙_}
+use Prim.Native.Nat.{ℕ, zero, suc, _+_, _<_}
+use mathlib.Core.Path.{_≡_, refl, sym, ap, _∙_}
 use mathlib.Core.List.{List}
 use native.Mathlib.Decide.{ℕ-discrete}
 use native.Mathlib.Omega.{arith}
 use lib.ListN.{length, getD, set, replicate, length-set, length-replicate}
 use lib.Seq.{getD-set-same, getD-set-other}
 use Rattle.tree.specs.Limits.{mostNodes}
-use Rattle.tree.specs.Tree.{Name, terminal}
+use Rattle.tree.specs.Tree.{terminal}
 use Rattle.tree.specs.declared.RoutingNode.{RoutingNode}
 use Rattle.tree.specs.Memory.{nodeIn}
 use Rattle.joining.specs.Store.{Rows, rowAt, nameFrom, nodeFrom}

@@ -25,7 +25,7 @@ use Rattle.output.specs.Answer as O
 use Rattle.output.proofs.Bytes.{put-first}
 use Rattle.output.specs.declared.Answer.{Answer}
 use Rattle.output.specs.declared.Answer.the-variants.{Wrote, Refused}
-use Rattle.planning.specs.Output.{mostText, mostOutput, refusalLine, figuresOf, treeOutput, outputFor, outputOf}
+use Rattle.planning.specs.Output.{mostText, mostOutput, refusalLine, figuresLineOf, treeOutput, outputFor, outputOf}
 use Rattle.planning.proofs.Room.{figures-short}
 
 -- out's first n bytes are xs
@@ -65,7 +65,7 @@ front {xs} {out} {out′} a {m} e = by (leb (length xs) (length out)) refl
 
 -- ---- a tree's output, by its text as it was put into a buffer with room for every output
 module _ (t : Tree) {buffer buffer′ : List ℕ} {m : ℕ} (size : mostOutput ≡ length buffer) (text : Puts buffer 0 (textOf (t .nodes)) buffer′ m) where
-  pub with-figures : m ≤ mostText → {figures buffer″ : List ℕ} {n : ℕ} → figures ≡ figuresOf t → Puts buffer′ m figures buffer″ n → Front (treeOutput t) buffer″ n
+  pub with-figures : m ≤ mostText → {figures buffer″ : List ℕ} {n : ℕ} → figures ≡ figuresLineOf t → Puts buffer′ m figures buffer″ n → Front (treeOutput t) buffer″ n
   unfolding treeOutput
   with-figures l e p =
       let k : length (textOf (t .nodes)) ≤ mostText = omega (arith, text .to) in

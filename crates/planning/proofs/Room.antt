@@ -14,7 +14,7 @@ use Rattle.tree.specs.Measures.{worst}
 use Rattle.text.specs.Text.{textOf}
 use Rattle.output.specs.Answer.{noRoom}
 use Rattle.route.specs.Routing.{Routing, refused, routed, routeOf}
-use Rattle.planning.specs.Output.{mostText, mostOutput, refusalLine, figuresLine, figuresOf, treeOutput, outputFor, outputOf}
+use Rattle.planning.specs.Output.{mostText, mostOutput, refusalLine, figuresLine, figuresLineOf, treeOutput, outputFor, outputOf}
 
 -- ---- numbers
 digits-few : (k n : ℕ) → length (digits k n) ≤ k
@@ -49,7 +49,7 @@ tree-short : (t : Tree) → length (treeOutput t) ≤ mostOutput
 unfolding treeOutput
 tree-short t = by (leb (length (textOf (t .nodes))) mostText) refl
   where
-    by : (b : Bool) → leb (length (textOf (t .nodes))) mostText ≡ b → length (cond b (textOf (t .nodes) ++ figuresOf t) (refusalLine noRoom)) ≤ mostOutput
+    by : (b : Bool) → leb (length (textOf (t .nodes))) mostText ≡ b → length (cond b (textOf (t .nodes) ++ figuresLineOf t) (refusalLine noRoom)) ≤ mostOutput
     by true e =
         let l : length (textOf (t .nodes)) ≤ mostText = leb-true _ _ e in
         simp length-append (omega (arith, l, figures-short (t .allowed) (t .farthest) (total (t .nodes)) (worst (t .nodes))))

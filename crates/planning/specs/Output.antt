@@ -30,12 +30,12 @@ unfoldable pub figuresLine : ℤ → ℕ → ℕ → ℕ → List ℕ
 figuresLine a w l v = bytes "allowed " ++ intText a ++ bytes " farthest " ++ decimalOf w ++ bytes " total " ++ decimalOf l ++ bytes " worst " ++ decimalOf v ++ bytes "\n"
 
 -- the figures of a tree
-abbrev pub figuresOf : Tree → List ℕ
-figuresOf t = figuresLine (t .allowed) (t .farthest) (total (t .nodes)) (worst (t .nodes))
+abbrev pub figuresLineOf : Tree → List ℕ
+figuresLineOf t = figuresLine (t .allowed) (t .farthest) (total (t .nodes)) (worst (t .nodes))
 
 -- "writes the text (buffer 65,536 bytes), then" the figures; "11, an output buffer shorter than what is to be written"
 unfoldable pub treeOutput : Tree → List ℕ
-treeOutput t = cond (leb (length (textOf (t .nodes))) mostText) (textOf (t .nodes) ++ figuresOf t) (refusalLine noRoom)
+treeOutput t = cond (leb (length (textOf (t .nodes))) mostText) (textOf (t .nodes) ++ figuresLineOf t) (refusalLine noRoom)
 
 -- "on refusal only `refused n`"
 abbrev pub outputFor : Routing → List ℕ

@@ -11,7 +11,7 @@ ghost use Rattle.nodes.specs.Table.{tableTree, Tabled};
 ghost use Rattle.planning.specs.Output.{mostOutput, refusalLine, figuresLine, treeOutput, outputOf};
 
 // "the text (buffer 65,536 bytes)"
-const MOST_TEXT: usize = 65536;
+pub const MOST_TEXT: usize = 65536;
 
 // Room for every output: the text, and the longest line of figures.
 pub const MOST_OUTPUT: usize = 65610;

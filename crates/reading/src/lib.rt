@@ -153,16 +153,13 @@ pub fn write_path(t: Table, i: NodeIndex, out: &mut [u16]) -> Answer
     )
 }
 
-// The refusal "7: a name that no node has".
-pub const NO_SUCH_NODE: u8 = 7;
-
 // The path to the node that has a name: 7 where no node has it.
 pub fn find_path(t: Table, name: NodeName, out: &mut [u16]) -> Answer
     requires { ⌜ Tabled t ⌝ }
     ensures { λ r. ⌜ PathNamed (tableTree t .nodes) (nameIn name) (now (out .entry)) r (now (out .exit)) ⌝ }
 {
     let Lookup::Found(i) = nodes::find_node(t, name) else {
-        return Answer::Refused(NO_SUCH_NODE);
+        return Answer::Refused(tree::NO_SUCH_NODE);
     };
     write_path(t, i, out)
 }

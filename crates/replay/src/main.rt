@@ -10,7 +10,7 @@ ghost use Prim.Native.Nat.{_+_, _<_, _≤_};
 ghost use lib.ListN.{length};
 ghost use Rattle.global_router.specs.Stored.{Stored};
 ghost use Rattle.script.specs.Runs.{Counts, Runs};
-ghost use Rattle.replay.specs.Input.{mostCase, mostBytes};
+ghost use Rattle.replay.specs.Input.{mostCase};
 
 // Room for any case of the input.
 const MOST_CASE: usize = 131072;
@@ -19,14 +19,6 @@ fn case_buffer() -> [u8; MOST_CASE]
     ensures { λ r. ⌜ mostCase ≡ length r ⌝ }
 {
     [0; MOST_CASE]
-}
-
-const MOST_BYTES: usize = 4024;
-
-fn bytes_buffer() -> [u8; MOST_BYTES]
-    ensures { λ r. ⌜ mostBytes ≡ length r ⌝ }
-{
-    [0; MOST_BYTES]
 }
 
 // ---- slices
@@ -83,7 +75,7 @@ fn plans(job: &[u8], text: &[u8]) -> bool {
 fn gives_bytes(t: GlobalRoutingTree, bytes: &[u8]) -> bool
     requires { ⌜ Stored t ⌝ }
 {
-    let mut out = bytes_buffer();
+    let mut out = script::bytes_buffer();
     let answer = t.to_bytes(&mut out);
     match answer {
         Answer::Wrote(n) => wrote(&out, n, bytes),

@@ -1,23 +1,25 @@
--- Demand 3 holds: order-freedom from the readings and from the trees, and the rest from `route-meets`.
-use mathlib.Core.Path.{_≡_, refl, sym, ap, subst, _∙_}
-use mathlib.Core.List.{List}
+-- Demand 3 holds: order-freedom from the readings and from the trees, and the rest from what is proved of a routed tree (tree/proofs/Routing.antt).
+use mathlib.Core.Path.{_≡_, refl, ap, subst, _∙_}
 use Prim.Native.Nat.{ℕ}
 use lib.Ieee.{Float}
 use lib.IntN.{ℤ}
 use Rattle.allowance.specs.Allowance.{allowedOf}
 use Rattle.tree.specs.Tree.{Tree}
 use Rattle.tree.specs.Route as T
-use Rattle.tree.specs.Shape.{Meets, Bounded}
+use Rattle.tree.specs.Shape.{Bounded}
 use Rattle.tree.proofs.Alike.{route-alike}
-use Rattle.tree.proofs.Routing.{same-limits, route-meets}
+use Rattle.tree.proofs.Order.{times-sort}
+use Rattle.tree.proofs.Measuring.{reaches, path-is-sum}
+use Rattle.tree.proofs.Routing as R
+use Rattle.tree.proofs.Routing.{same-limits, route-terminals, route-bounded, route-total}
 use Rattle.job.specs.declared.Mode.{Mode}
 use Rattle.job.specs.declared.Mode.the-variants.{Constraints}
 use Rattle.job.specs.Job as J
 use Rattle.job.specs.Job.{Job, readJob}
-use Rattle.job.specs.Alike.{AlikeButOrder, SameJobs, SameReading}
+use Rattle.job.specs.Alike.{SameJobs, SameReading}
 use Rattle.job.proofs.Alike.{read-alike}
 use Rattle.route.specs.Routing.{Routing, refused, routed, wayOf, treeFor, routingOf, routeOf}
-use Rattle.route.specs.Demand3.{farthestOf, allowanceOf, Constrained, Owed, Demand3}
+use Rattle.route.specs.Demand3.{farthestOf, allowanceOf, Constrained, Demand3}
 
 -- ---- order
 same-tree : (j k : Job) → SameJobs j k → treeFor j ≡ treeFor k
@@ -39,19 +41,22 @@ module _ (j : Job) (m : Float) where
   figures : (tree .allowed ≡ allowanceOf j m) × (tree .limit ≡ farthestOf j) × (tree .farthest ≡ farthestOf j)
   figures = same-limits (j .source) (j .keepouts) (T.sort (j .source) (j .terminals)) (T.rooted (j .source) (allowanceOf j m) (farthestOf j) (farthestOf j))
 
-  constrained-meets : Meets (j .source) (j .terminals) tree → Constrained j m tree
-  constrained-meets v =
-      let bounded : Bounded (j .source) (allowanceOf j m) (farthestOf j) (tree .nodes) = subst (λ (a : ℤ). Bounded (j .source) a (farthestOf j) (tree .nodes)) (figures .0) (v .ceilings) in
+  constrained : Constrained j m tree
+  constrained =
+      let allowance : ℕ → ℤ = λ w. allowedOf w m in
+      let r = R.routed (j .source) (j .terminals) (j .keepouts) allowance in
+      let bounded : Bounded (j .source) (allowanceOf j m) (farthestOf j) (tree .nodes) =
+      subst (λ (a : ℤ). Bounded (j .source) a (farthestOf j) (tree .nodes)) (figures .0) (route-bounded (j .source) (j .terminals) (j .keepouts) allowance) in
       record {
         exact = refl;
-        by-number = v .by-number;
-        as-often = v .as-often;
-        to-source = v .to-source;
-        path-sums = v .path-sums;
+        by-number = route-terminals (j .source) (j .terminals) (j .keepouts) allowance;
+        as-often = times-sort (j .source) (j .terminals);
+        to-source = reaches (r .linked);
+        path-sums = path-is-sum (r .linked) (r .measured);
         carries = (figures .0, figures .2, figures .1);
         within = λ i k l e. bounded i k l e .inside;
         beyond = λ i k l e. bounded i k l e .outside;
-        total-low = v .total-low;
+        total-low = route-total (j .source) (j .terminals) (j .keepouts) allowance;
       }
 
   constrained-tree : j .mode ≡ Constraints m → treeFor j ≡ tree
@@ -63,5 +68,5 @@ demand3 b =
     record {
       same-answer = λ a h. same-routing (readJob a) (readJob b) (read-alike a b h);
       constrained = λ j m e f.
-          (tree j m, ap routingOf e ∙ ap routed (constrained-tree j m f), constrained-meets j m (route-meets (j .source) (j .terminals) (j .keepouts) (λ w. allowedOf w m)));
+          (tree j m, ap routingOf e ∙ ap routed (constrained-tree j m f), constrained j m);
     }

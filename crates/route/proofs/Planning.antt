@@ -13,19 +13,19 @@ use Rattle.tree.specs.Route.{inserts, rooted, sort, farthest, route}
 use Rattle.tree.specs.WellFormed.{WellFormed, Counted}
 use Rattle.job.specs.declared.Mode.{Mode}
 use Rattle.job.specs.declared.Mode.the-variants.{Simple, Steiners, Constraints}
-use Rattle.tree.specs.Memory.{keepoutsOf}
-use Rattle.sorting.specs.Points.{pt, seg, Sorted}
-use Rattle.sorting.proofs.Moves.{seg-append}
+use Rattle.tree.specs.Memory.{pointAt, pointsOf, keepoutsOf}
+use Rattle.sorting.specs.Points.{Sorted}
+use Rattle.sorting.proofs.Segments.{seg, seg-append, seg-points}
 use Rattle.joining.specs.Links.{LinkedBack}
 use Rattle.joining.specs.Store.{Store, SizedStore, Keeps, upTo}
 use Rattle.joining.proofs.Reading.{sized-columns, backed-of}
 use Rattle.nodes.specs.declared.Table.{Table}
 use Rattle.nodes.specs.Table.{tableColumns, tableLinks, tableStore, tableTree}
 use Rattle.inserting.specs.Insert.{stepOf}
-use Rattle.inserting.specs.Route.{treeOf, Routable, Routed}
+use Rattle.inserting.specs.Route.{treeAfter, Routable, RoutedColumns}
 use Rattle.route.specs.declared.Choice.{Choice}
 use Rattle.route.specs.Routing.{wayOf}
-use Rattle.route.specs.Plan.{points, choiceOf, Plannable, Planned}
+use Rattle.route.specs.Plan.{choiceOf, Plannable, Planned}
 
 -- ---- the first n of a column, from the front and from the back
 upto-seg : (f : ℕ → Point) (n : ℕ) → upTo f n ≡ seg f 0 n
@@ -49,8 +49,9 @@ unfolding seg
 far s f h i zero g = omega arith
 far s f h i (suc k) g = omega (arith, dist-small h (g i (omega arith)), far s f h (suc i) k (λ j l. g j (omega arith)))
 
-pub farthest-bound : {px py : List ℤ} {s : Point} → Plannable px py s → farthest s (points px py) ≤ across
-farthest-bound {px} {py} {s} v = far s (pt px py) (v .source) 0 (length px) (λ j l. v .even .near j (omega arith))
+pub farthest-bound : {px py : List ℤ} {s : Point} → Plannable px py s → farthest s (pointsOf px py) ≤ across
+farthest-bound {px} {py} {s} v =
+    omega (arith, ap (farthest s) (seg-points px py (v .even .both)), far s (pointAt px py) (v .source) 0 (length px) (λ j l. v .even .near j (omega arith)))
 
 -- ---- what a mode chooses
 module _ (s : Point) (w : ℕ) where
@@ -74,7 +75,7 @@ module _ (s : Point) (w : ℕ) where
 
 -- ---- the call
 module _ (ks px py : List ℤ) (s : Point) (mode : Mode) (v : Plannable px py s) (px′ py′ : List ℤ) (sorted : Sorted px py s px′ py′)
-    (w : ℕ) (is-w : w ≡ farthest s (points px py)) (c : Choice) (is-c : c ≡ choiceOf mode s w) where
+    (w : ℕ) (is-w : w ≡ farthest s (pointsOf px py)) (c : Choice) (is-c : c ≡ choiceOf mode s w) where
   pub routable : (kept : Store) → SizedStore (length (kept .rows .xs)) kept → 241 ≤ length (kept .rows .xs) → Routable px′ py′ (c .query) kept
   routable kept z h =
       record {
@@ -86,9 +87,9 @@ module _ (ks px py : List ℤ) (s : Point) (mode : Mode) (v : Plannable px py s)
         near = sorted .even .near;
       }
 
-  module _ (t : Table) (of : Routed (c .way) ks px′ py′ (c .query) (t .counts) (tableStore t)) (size : length (t .xs) ≡ mostNodes)
+  module _ (t : Table) (of : RoutedColumns (c .way) ks px′ py′ (c .query) (t .counts) (tableStore t)) (size : length (t .xs) ≡ mostNodes)
       (is-limit : t .limit ≡ c .query .limit) (is-allowed : t .allowed ≡ c .query .allowed) (is-farthest : t .farthest ≡ w) where
-    table-is : tableTree t ≡ treeOf (c .way) ks px′ py′ (c .query) w (length px′)
+    table-is : tableTree t ≡ treeAfter (c .way) ks px′ py′ (c .query) w (length px′)
     table-is =
         (λ i. record {
           nodes = tableTree t .nodes;
@@ -100,11 +101,11 @@ module _ (ks px py : List ℤ) (s : Point) (mode : Mode) (v : Plannable px py s)
         })
         ∙ of .tree w
 
-    tree-is : treeOf (c .way) ks px′ py′ (c .query) w (length px′) ≡ route (wayOf mode) s (points px py) (keepoutsOf ks)
-    unfolding treeOf
+    tree-is : treeAfter (c .way) ks px′ py′ (c .query) w (length px′) ≡ route (wayOf mode) s (pointsOf px py) (keepoutsOf ks)
+    unfolding treeAfter
     tree-is =
-        (λ i. inserts (stepOf (is-c i .way) ks) ((upto-seg (pt px′ py′) (length px′) ∙ sorted .is) i) (rooted (is-c i .query .point) (is-c i .query .allowed) w (is-c i .query .limit)))
-        ∙ by-choice s w mode ks (points px py) is-w
+        (λ i. inserts (stepOf (is-c i .way) ks) ((upto-seg (pointAt px′ py′) (length px′) ∙ seg-points px′ py′ (sorted .even .both) ∙ sorted .is) i) (rooted (is-c i .query .point) (is-c i .query .allowed) w (is-c i .query .limit)))
+        ∙ by-choice s w mode ks (pointsOf px py) is-w
 
     low-w : w ≤ across
     low-w = omega (arith, farthest-bound v)
@@ -115,10 +116,10 @@ module _ (ks px py : List ℤ) (s : Point) (mode : Mode) (v : Plannable px py s)
     back : LinkedBack mostNodes (t .counts .nodes) (tableLinks t)
     back =
         let h = of .holds w in
-        let few : length (treeOf (c .way) ks px′ py′ (c .query) w (length px′) .nodes) ≤ mostNodes = omega (arith, h .counted .size, h .counted .steiners, h .stores .terminal, of .next, sorted .size, v .few) in
+        let few : length (treeAfter (c .way) ks px′ py′ (c .query) w (length px′) .nodes) ≤ mostNodes = omega (arith, h .counted .size, h .counted .steiners, h .stores .terminal, of .next, sorted .size, v .few) in
         record {
           size = sized .links .next;
-          agree = λ p l. backed-of (treeOf (c .way) ks px′ py′ (c .query) w (length px′)) (h .formed) few mostNodes (tableColumns t) (sized-columns sized) (h .stores .keeps) few (t .next) (h .stores .backs) p (omega (arith, h .stores .size));
+          agree = λ p l. backed-of (treeAfter (c .way) ks px′ py′ (c .query) w (length px′)) (h .formed) few mostNodes (tableColumns t) (sized-columns sized) (h .stores .keeps) few (t .next) (h .stores .backs) p (omega (arith, h .stores .size));
         }
 
     pub planned : Planned ks px py s mode t

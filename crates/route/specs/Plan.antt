@@ -12,8 +12,8 @@ use Rattle.tree.specs.Route.{farthest, route}
 use Rattle.tree.specs.WellFormed.{WellFormed, Counted}
 use Rattle.job.specs.declared.Mode.{Mode}
 use Rattle.job.specs.declared.Mode.the-variants.{Simple, Steiners, Constraints}
-use Rattle.tree.specs.Memory.{keepoutsOf}
-use Rattle.sorting.specs.Points.{pt, seg, Even}
+use Rattle.tree.specs.Memory.{pointsOf, keepoutsOf}
+use Rattle.sorting.specs.Points.{Even}
 use Rattle.inserting.specs.declared.Way.the-variants as W
 use Rattle.joining.specs.Links.{LinkedBack}
 use Rattle.joining.specs.Store.{Sized, Keeps}
@@ -21,10 +21,6 @@ use Rattle.nodes.specs.declared.Table.{Table}
 use Rattle.nodes.specs.Table.{tableColumns, tableLinks, tableTree}
 use Rattle.route.specs.declared.Choice.{Choice}
 use Rattle.route.specs.Routing.{wayOf}
-
--- the points of two columns
-abbrev pub points : List ℤ → List ℤ → List Point
-points px py = seg (pt px py) 0 (length px)
 
 -- how a mode routes, with W: the way to join, the tree limit and the allowance
 abbrev pub choiceOf : Mode → Point → ℕ → Choice
@@ -39,7 +35,7 @@ pub record Plannable (px py : List ℤ) (s : Point) : Type 0 where
 
 -- the table is the tree that the definition gives, and keeps it well-formed
 pub record Planned (ks px py : List ℤ) (s : Point) (mode : Mode) (t : Table) : Type 0 where
-  pub tree : tableTree t ≡ route (wayOf mode) s (points px py) (keepoutsOf ks)
+  pub tree : tableTree t ≡ route (wayOf mode) s (pointsOf px py) (keepoutsOf ks)
   pub formed : WellFormed (tableTree t)
   pub counted : Counted (tableTree t)
   pub keeps : Keeps (tableTree t .nodes) (tableColumns t)

@@ -8,9 +8,10 @@ ghost use mathlib.Core.Path.{_≡_};
 ghost use Prim.Native.Nat.{max};
 ghost use Rattle.geometry.specs.Laws.{Within};
 ghost use Rattle.tree.specs.Limits.{reach};
+ghost use Rattle.tree.specs.Memory.{pointsOf};
 ghost use Rattle.tree.specs.Route.{farthest};
 ghost use Rattle.sorting.specs.Points.{Even};
-ghost use Rattle.route.specs.Plan.{points, choiceOf, Plannable, Planned};
+ghost use Rattle.route.specs.Plan.{choiceOf, Plannable, Planned};
 
 // How a mode routes: the way to join, the tree limit and the allowance.
 pub struct Choice {
@@ -27,13 +28,13 @@ fn larger(a: u32, b: u32) -> u32
 // W: the largest distance from the source, 0 with no terminals.
 fn farthest<'a>(px: &'a [i32], py: &'a [i32], s: Point) -> u32
     requires { ⌜ Even (now px) (now py) × Within reach s ⌝ }
-    ensures { λ r. ⌜ r ≡ farthest s (points (now (px .entry)) (now (py .entry))) ⌝ }
+    ensures { λ r. ⌜ r ≡ farthest s (pointsOf (now (px .entry)) (now (py .entry))) ⌝ }
 {
     let mut w: u32 = 0;
     let mut i = px.len();
     while 0 < i {
         i = i - 1;
-        let q = sorting::point_at(px, py, i);
+        let q = tree::point_at(px, py, i);
         w = larger(search::distance(s, q), w);
     }
     w

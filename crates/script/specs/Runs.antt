@@ -6,10 +6,7 @@ use lib.ListN.{length, take}
 use Rattle.global_router.specs.Stored.{Stored}
 use Rattle.script.specs.declared.Progress.{Progress}
 
--- the largest buffers that a call is lent: bytes of text, tree bytes, indices
-abbrev pub mostText : ℕ
-mostText = 65536
-
+-- the largest buffers that a call is lent, beside that of the text: tree bytes, indices
 abbrev pub mostBytes : ℕ
 mostBytes = 4024
 

@@ -21,7 +21,8 @@ ghost use Prim.Native.Nat.{_+_, _<_, _≤_};
 ghost use lib.ListN.{length};
 ghost use Rattle.rectangles.specs.Rectangles.{room};
 ghost use Rattle.global_router.specs.Stored.{Stored};
-ghost use Rattle.script.specs.Runs.{mostText, mostBytes, mostListed, mostAnswer, Counts, Runs};
+ghost use Rattle.planning.specs.Output.{mostText};
+ghost use Rattle.script.specs.Runs.{mostBytes, mostListed, mostAnswer, Counts, Runs};
 
 const HEADER_SIZE: usize = 16;
 
@@ -30,9 +31,7 @@ const RECORD_SIZE: usize = 32;
 const KEEPOUT_SIZE: usize = 16;
 
 // The largest buffers that a call is lent.
-const MOST_TEXT: usize = 65536;
-
-const MOST_BYTES: usize = 4024;
+pub const MOST_BYTES: usize = 4024;
 
 const MOST_LISTED: usize = 250;
 
@@ -40,13 +39,13 @@ const NEWLINE: u8 = 10;
 
 // ---- buffers
 
-fn text_buffer() -> [u8; MOST_TEXT]
+fn text_buffer() -> [u8; planning::MOST_TEXT]
     ensures { λ r. ⌜ mostText ≡ length r ⌝ }
 {
-    [0; MOST_TEXT]
+    [0; planning::MOST_TEXT]
 }
 
-fn bytes_buffer() -> [u8; MOST_BYTES]
+pub fn bytes_buffer() -> [u8; MOST_BYTES]
     ensures { λ r. ⌜ mostBytes ≡ length r ⌝ }
 {
     [0; MOST_BYTES]
@@ -316,7 +315,7 @@ fn put_tree_bytes(out: &mut [u8], bytes: &[u8]) -> usize {
 
 // The first m bytes of a text.
 fn put_text(out: &mut [u8], text: &[u8], m: usize) -> usize {
-    let n = within(least(m, MOST_TEXT), text);
+    let n = within(least(m, planning::MOST_TEXT), text);
     let p = put_word(out, b"text ", n as u32);
     output::put_bytes(out, p, &text[..n])
 }
@@ -353,7 +352,7 @@ fn index(t: GlobalRoutingTree, record: &[u8], out: &mut [u8]) -> usize
 {
     let name = name_a(record);
     let Lookup::Found(i) = t.find_node(name) else {
-        return planning::put_refusal(out, 0, reading::NO_SUCH_NODE);
+        return planning::put_refusal(out, 0, tree::NO_SUCH_NODE);
     };
     put_word(out, b"index ", widen(i.0))
 }

@@ -20,7 +20,8 @@ use Rattle.search.specs.declared.Best.{Best}
 use Rattle.search.specs.declared.Query.{Query}
 use Rattle.search.specs.declared.NodeView.{NodeView}
 use Rattle.search.specs.Branch.{judge, isTaken, takeIt, runTo, joinAt}
-use Rattle.search.specs.Walk.{viewAt, pointAt}
+use Rattle.tree.specs.Memory.{pointAt}
+use Rattle.search.specs.Walk.{viewAt}
 use Rattle.search.specs.Columns.{Has, childrenOf}
 use Rattle.search.specs.Boxes.{boxAt}
 use Rattle.search.specs.Thin.{isFar, isWanted, BoxColumns}

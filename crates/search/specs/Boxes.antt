@@ -18,6 +18,11 @@ boxAt lows highs i =
       ycoord = record { lb = getD lows (2 * i + 1) (pos 0); ub = getD highs (2 * i + 1) (pos 0) };
     }
 
+-- two lists with room for the boxes of n nodes
+pub record BoxRoom (n : ℕ) (lows highs : List ℤ) : Type 0 where
+  pub in-lows : 2 * n ≤ length lows
+  pub in-highs : 2 * n ≤ length highs
+
 -- a box that holds another
 abbrev pub holds : Rectangle → Rectangle → Bool
 holds b a = covers (b .xcoord) (a .xcoord) && covers (b .ycoord) (a .ycoord)

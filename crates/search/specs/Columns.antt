@@ -11,8 +11,8 @@ use Rattle.geometry.specs.Laws.{Within}
 use Rattle.tree.specs.Limits.{longestPath, reach, noNode}
 use Rattle.search.specs.declared.Join.{Join}
 use Rattle.search.specs.declared.Query.{Query}
-use Rattle.search.specs.Walk.{pointAt, viewAt, walk, Safe, start}
-use Rattle.tree.specs.Memory.{keepoutsOf}
+use Rattle.search.specs.Walk.{viewAt, walk, Safe, start}
+use Rattle.tree.specs.Memory.{pointAt, keepoutsOf}
 
 unfoldable pub Has : ℕ → List ℕ → Type 0
 Has c [] = ⊥

@@ -11,8 +11,7 @@ use Rattle.tree.specs.Search as T
 use Rattle.search.specs.declared.Join.{Join}
 use Rattle.search.specs.declared.Join.the-variants.{Onto, Split}
 use Rattle.search.specs.declared.Query.{Query}
-use Rattle.search.specs.Walk.{pointAt}
-use Rattle.tree.specs.Memory.{keepoutsOf}
+use Rattle.tree.specs.Memory.{pointAt, keepoutsOf}
 use Rattle.search.specs.Columns.{Chain, Has, Distinct}
 use Rattle.search.specs.Boxes.{Covers}
 

@@ -6,7 +6,7 @@ use mathlib.Core.Bool.{Bool, true, false, not, _&&_, _||_, cond}
 use mathlib.Core.List.{List, [], _∷_}
 use lib.ListN.{length, getD}
 use lib.Dec.{leb, eqb}
-use lib.IntN.{ℤ, pos}
+use lib.IntN.{ℤ}
 use Rattle.geometry.specs.declared.Point.{Point}
 use Rattle.geometry.specs.declared.Rectangle.{Rectangle}
 use Rattle.geometry.specs.Geometry.{contains, distTo}
@@ -18,9 +18,10 @@ use Rattle.search.specs.declared.NodeView.{NodeView}
 use Rattle.search.specs.declared.Judged.{Judged}
 use Rattle.search.specs.declared.Examined.{Examined}
 use Rattle.search.specs.Branch.{isTaken, judge, blockedBy, Near}
-use Rattle.search.specs.Walk.{Walk, pointAt, viewAt, afterBranch}
+use Rattle.tree.specs.Memory.{pointAt}
+use Rattle.search.specs.Walk.{Walk, viewAt, afterBranch}
 use Rattle.search.specs.Columns.{Has, InReach, stackOf, childrenOf}
-use Rattle.search.specs.Boxes.{boxAt, holds}
+use Rattle.search.specs.Boxes.{boxAt, BoxRoom, holds}
 
 -- ---- one branch
 -- a branch within the allowance was found, no farther than d
@@ -43,11 +44,6 @@ settled ks a P C b j wanted =
     (record { found = b; pushed = false })
 
 -- ---- subtrees
--- the box whose numbers start at i: boxAt at i = 2 · p
-abbrev pub boxFrom : List ℤ → List ℤ → ℕ → Rectangle
-boxFrom lows highs i =
-    record { xcoord = record { lb = getD lows i (pos 0); ub = getD highs i (pos 0) }; ycoord = record { lb = getD lows (i + 1) (pos 0); ub = getD highs (i + 1) (pos 0) } }
-
 -- the box about the subtree of p is past what was found
 abbrev pub isFar : Query → List ℤ → List ℤ → Best → ℕ → Bool
 isFar a lows highs b p = isPast b (distTo (boxAt lows highs p) (a .point))
@@ -73,16 +69,11 @@ module _ (ks : List Rectangle) (a : Query) (view : ℕ → NodeView) (wanted : B
     pub fits : top′ ≤ top + length cs
 
 -- ---- columns
--- the box of p stands in the lists
-pub record Boxed (lows highs : List ℤ) (p : ℕ) : Type 0 where
-  pub in-lows : 2 * p + 2 ≤ length lows
-  pub in-highs : 2 * p + 2 ≤ length highs
-
 -- what the branch from P to its child c asks
 pub record Child (a : Query) (P : NodeView) (xs ys : List ℤ) (path last : List ℕ) (lows highs : List ℤ) (c : ℕ) : Type 0 where
   pub here : InReach xs ys path c
   pub in-last : c < length last
-  pub boxed : Boxed lows highs c
+  pub boxed : BoxRoom (c + 1) lows highs
   pub near : Near a P (viewAt xs ys path c)
 
 -- P and its children cs are near, and there are not too many links

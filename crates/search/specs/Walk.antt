@@ -4,10 +4,10 @@ use mathlib.Core.Path.{_≡_}
 use mathlib.Core.Bool.{false, cond}
 use mathlib.Core.List.{List, [], _∷_}
 use lib.ListN.{length, getD}
-use lib.IntN.{ℤ, pos}
-use Rattle.geometry.specs.declared.Point.{Point}
+use lib.IntN.{ℤ}
 use Rattle.geometry.specs.declared.Rectangle.{Rectangle}
 use Rattle.tree.specs.declared.NodeIndex.{NodeIndex}
+use Rattle.tree.specs.Memory.{pointAt}
 use Rattle.search.specs.declared.Join.the-variants.{Onto}
 use Rattle.search.specs.declared.Best.{Best}
 use Rattle.search.specs.declared.Query.{Query}
@@ -16,9 +16,6 @@ use Rattle.search.specs.declared.Examined.{Examined}
 use Rattle.search.specs.Branch.{examineBranch}
 
 -- ---- columns
-abbrev pub pointAt : List ℤ → List ℤ → ℕ → Point
-pointAt xs ys i = record { xcoord = getD xs i (pos 0); ycoord = getD ys i (pos 0) }
-
 abbrev pub nodeIndex : ℕ → NodeIndex
 nodeIndex i = record { 0 = i }
 

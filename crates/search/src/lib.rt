@@ -15,9 +15,10 @@ ghost use Rattle.geometry.specs.Geometry.{dist};
 ghost use Rattle.tree.specs.Search.{nearestOn};
 ghost use Rattle.tree.specs.Memory.{keepoutsOf};
 ghost use Rattle.search.specs.Branch.{takeIt, joinAt, keepoutAt, blockedBy, stopsBy, stopsBranch, besideOf, Near, either};
-ghost use Rattle.search.specs.Walk.{pointAt, viewAt};
+ghost use Rattle.search.specs.Walk.{viewAt};
 ghost use Rattle.search.specs.Columns.{InReach, Chained, chain, TreeColumns, SafeOn, foundOn};
-ghost use Rattle.search.specs.Thin.{isPast, untaken, judgedAt, judged, settled, Boxed, boxFrom, isFar, isWanted, thinBranch, Child, NearChildren, Pushes, BoxColumns};
+ghost use Rattle.search.specs.Boxes.{boxAt, BoxRoom};
+ghost use Rattle.search.specs.Thin.{isPast, untaken, judgedAt, judged, settled, isFar, isWanted, thinBranch, Child, NearChildren, Pushes, BoxColumns};
 ghost use Rattle.search.specs.Find.{Ready, Joins};
 
 // Where a point joins: at a node, or on the branch from a node to its child.
@@ -318,24 +319,13 @@ pub fn wide(x: u16) -> usize
     x as usize
 }
 
-// The i-th point of two columns.
-pub fn point_at<'a>(xs: &'a [i32], ys: &'a [i32], i: usize) -> Point
-    requires { ⌜ (i < length (now xs)) × (i < length (now ys)) ⌝ }
-    ensures { λ r. ⌜ r ≡ pointAt (now (xs .entry)) (now (ys .entry)) i ⌝ }
-{
-    Point {
-        xcoord: xs[i],
-        ycoord: ys[i],
-    }
-}
-
 // What the search reads of a node.
 pub fn view_at<'a>(xs: &'a [i32], ys: &'a [i32], path: &'a [u32], c: NodeIndex) -> NodeView
     requires { ⌜ InReach (now xs) (now ys) (now path) (c .0) ⌝ }
     ensures { λ r. ⌜ r ≡ viewAt (now (xs .entry)) (now (ys .entry)) (now (path .entry)) (c .0) ⌝ }
 {
     let i = wide(c.0);
-    let p = point_at(xs, ys, i);
+    let p = tree::point_at(xs, ys, i);
     NodeView {
         node: c,
         point: p,
@@ -345,18 +335,18 @@ pub fn view_at<'a>(xs: &'a [i32], ys: &'a [i32], path: &'a [u32], c: NodeIndex) 
 
 // ---- subtrees
 
-// The box whose lower and upper numbers start at i.
-fn box_from<'a>(lows: &'a [i32], highs: &'a [i32], i: usize) -> Rectangle
-    requires { ⌜ (i + 2 ≤ length (now lows)) × (i + 2 ≤ length (now highs)) ⌝ }
-    ensures { λ r. ⌜ r ≡ boxFrom (now (lows .entry)) (now (highs .entry)) i ⌝ }
+// The box that stands at i in two columns, of two numbers each.
+pub fn box_at<'a>(lows: &'a [i32], highs: &'a [i32], i: usize) -> Rectangle
+    requires { ⌜ BoxRoom (i + 1) (now lows) (now highs) ⌝ }
+    ensures { λ r. ⌜ r ≡ boxAt (now (lows .entry)) (now (highs .entry)) i ⌝ }
 {
     let x = Interval {
-        lb: lows[i],
-        ub: highs[i],
+        lb: lows[2 * i],
+        ub: highs[2 * i],
     };
     let y = Interval {
-        lb: lows[i + 1],
-        ub: highs[i + 1],
+        lb: lows[2 * i + 1],
+        ub: highs[2 * i + 1],
     };
     Rectangle {
         xcoord: x,
@@ -366,11 +356,11 @@ fn box_from<'a>(lows: &'a [i32], highs: &'a [i32], i: usize) -> Rectangle
 
 // Whether no branch below p is taken: the box about its subtree is past what was found.
 fn is_far<'a>(query: Query, b: Best, p: u16, lows: &'a [i32], highs: &'a [i32]) -> bool
-    requires { ⌜ Boxed (now lows) (now highs) p ⌝ }
+    requires { ⌜ BoxRoom (p + 1) (now lows) (now highs) ⌝ }
     ensures { λ r. ⌜ r ≡ isFar query (now (lows .entry)) (now (highs .entry)) b p ⌝ }
 {
-    let i = 2 * wide(p);
-    let r = box_from(lows, highs, i);
+    let i = wide(p);
+    let r = box_at(lows, highs, i);
     let d = r.min_dist_with(query.point);
     is_past(b, d)
 }
@@ -384,7 +374,7 @@ fn is_wanted<'a>(
     lows: &'a [i32],
     highs: &'a [i32],
 ) -> bool
-    requires { ⌜ (p < length (now last)) × Boxed (now lows) (now highs) p ⌝ }
+    requires { ⌜ (p < length (now last)) × BoxRoom (p + 1) (now lows) (now highs) ⌝ }
     ensures { λ r. ⌜ r ≡ isWanted query (now (last .entry)) (now (lows .entry)) (now (highs .entry)) b p ⌝ }
 {
     let i = wide(p);

@@ -8,18 +8,18 @@ use lib.ListN.{length, getD, set, length-set}
 use lib.Seq.{getD-set-same, getD-set-other}
 use lib.IntN.{ℤ}
 use Rattle.geometry.specs.declared.Point.{Point}
-use Rattle.sorting.specs.Points.{pt}
+use Rattle.tree.specs.Memory.{pointAt}
 use Rattle.sorting.specs.Keys.{keyOf, pointOf, Keyed, Read}
 use Rattle.sorting.proofs.Moves.{put-other, put-same, put-length-x, put-length-y}
 
 pub keyed-none : {px py : List ℤ} {s : Point} {keys : List ℕ} → length keys ≡ length px → Keyed px py s 0 keys
 keyed-none e = record { size = e; each = λ k h. absurd (omega arith) }
 
-pub keyed-more : {px py : List ℤ} {s : Point} {keys : List ℕ} {i v : ℕ} → Keyed px py s i keys → i < length keys → v ≡ keyOf s (pt px py i) → Keyed px py s (i + 1) (set keys i v)
+pub keyed-more : {px py : List ℤ} {s : Point} {keys : List ℕ} {i v : ℕ} → Keyed px py s i keys → i < length keys → v ≡ keyOf s (pointAt px py i) → Keyed px py s (i + 1) (set keys i v)
 keyed-more {px} {py} {s} {keys} {i} {v} a h e = record { size = length-set keys i v ∙ a .size; each = λ k l. by k l (ℕ-discrete k i) }
   where
-    by : (k : ℕ) → k < i + 1 → Dec (k ≡ i) → getD (set keys i v) k 0 ≡ keyOf s (pt px py k)
-    by k l (yes d) = ap (λ (x : ℕ). getD (set keys i v) x 0) d ∙ getD-set-same keys i v 0 h ∙ e ∙ ap (λ (x : ℕ). keyOf s (pt px py x)) (sym d)
+    by : (k : ℕ) → k < i + 1 → Dec (k ≡ i) → getD (set keys i v) k 0 ≡ keyOf s (pointAt px py k)
+    by k l (yes d) = ap (λ (x : ℕ). getD (set keys i v) x 0) d ∙ getD-set-same keys i v 0 h ∙ e ∙ ap (λ (x : ℕ). keyOf s (pointAt px py x)) (sym d)
     by k l (no d) = getD-set-other keys i k v 0 d ∙ a .each k (omega arith)
 
 pub keyed-all : {px py : List ℤ} {s : Point} {keys : List ℕ} {i n : ℕ} → Keyed px py s i keys → n ≤ i → Keyed px py s n keys
@@ -37,9 +37,9 @@ read-more {keys} {px} {py} {px′} {py′} {i} {p} a h e ex ey =
       each = λ k l. by k l (ℕ-discrete k i);
     }
   where
-    by : (k : ℕ) → k < i + 1 → Dec (k ≡ i) → pt px′ py′ k ≡ pointOf (getD keys k 0)
+    by : (k : ℕ) → k < i + 1 → Dec (k ≡ i) → pointAt px′ py′ k ≡ pointOf (getD keys k 0)
     by k l (yes d) =
-        ap (pt px′ py′) d ∙ put-same px py i p px′ py′ ex ey (omega (arith, a .size-x)) (omega (arith, a .size-y)) ∙ e ∙ ap (λ (x : ℕ). pointOf (getD keys x 0)) (sym d)
+        ap (pointAt px′ py′) d ∙ put-same px py i p px′ py′ ex ey (omega (arith, a .size-x)) (omega (arith, a .size-y)) ∙ e ∙ ap (λ (x : ℕ). pointOf (getD keys x 0)) (sym d)
     by k l (no d) = put-other px py i p px′ py′ ex ey k d ∙ a .each k (omega arith)
 
 pub read-all : {keys : List ℕ} {px py : List ℤ} {i n : ℕ} → Read keys i px py → n ≤ i → Read keys n px py

@@ -16,7 +16,9 @@ use Rattle.geometry.specs.Signed.{In, bias, lt-yes, lt-no, gap-bias}
 use Rattle.geometry.specs.Geometry.{gap, dist}
 use Rattle.geometry.specs.Laws.{Within}
 use Rattle.tree.specs.Route.{ordered, place, sort}
-use Rattle.sorting.specs.Points.{pt, seg, Even, Sorted}
+use Rattle.tree.specs.Memory.{pointAt}
+use Rattle.sorting.specs.Points.{Even, Sorted}
+use Rattle.sorting.proofs.Segments.{seg, seg-points}
 use Rattle.sorting.specs.Keys.{least, part, keyOf, pointOf, Keyed, Read, placeKey, sortKeys}
 use Rattle.sorting.proofs.Tests.{ord-near, ord-far, ord-left, ord-right, ord-above, ord-below}
 
@@ -226,25 +228,28 @@ module _ {px py px′ py′ : List ℤ} {s : Point} {keys keys′ : List ℕ} (e
   plus : (x : ℕ) → 0 + x ≡ x
   plus x = omega arith
 
-  points-near : AllNear (seg (pt px py) 0 (length px))
-  points-near = near-seg (pt px py) 0 (length px) (λ x l. subst (λ (y : ℕ). Within reach (pt px py y)) (sym (plus x)) (e .near x l))
+  points-near : AllNear (seg (pointAt px py) 0 (length px))
+  points-near = near-seg (pointAt px py) 0 (length px) (λ x l. subst (λ (y : ℕ). Within reach (pointAt px py y)) (sym (plus x)) (e .near x l))
 
-  keys-are : keys ≡ map (keyOf s) (seg (pt px py) 0 (length px))
+  keys-are : keys ≡ map (keyOf s) (seg (pointAt px py) 0 (length px))
   keys-are =
-      keys-seg s (pt px py) keys 0 (λ x l. k .each x (omega (arith, k .size)) ∙ ap (λ (y : ℕ). keyOf s (pt px py y)) (sym (plus x)))
-      ∙ ap (λ (n : ℕ). map (keyOf s) (seg (pt px py) 0 n)) (k .size)
+      keys-seg s (pointAt px py) keys 0 (λ x l. k .each x (omega (arith, k .size)) ∙ ap (λ (y : ℕ). keyOf s (pointAt px py y)) (sym (plus x)))
+      ∙ ap (λ (n : ℕ). map (keyOf s) (seg (pointAt px py) 0 n)) (k .size)
 
-  points-are : seg (pt px′ py′) 0 (length px′) ≡ sort s (seg (pt px py) 0 (length px))
+  points-are : seg (pointAt px′ py′) 0 (length px′) ≡ sort s (seg (pointAt px py) 0 (length px))
   points-are =
-      ap (seg (pt px′ py′) 0) (r .size-x)
-      ∙ seg-keys (pt px′ py′) keys′ 0 (λ x l. ap (pt px′ py′) (plus x) ∙ r .each x l)
+      ap (seg (pointAt px′ py′) 0) (r .size-x)
+      ∙ seg-keys (pointAt px′ py′) keys′ 0 (λ x l. ap (pointAt px′ py′) (plus x) ∙ r .each x l)
       ∙ ap (map pointOf) (sorted ∙ ap sortKeys keys-are ∙ sort-keys-map s _ points-near)
       ∙ map-back s _ (near-sort s _ points-near)
 
   pub sorted-points : length px′ ≡ length px → Sorted px py s px′ py′
-  sorted-points n = record { is = points-are; even = record { both = r .size-y ∙ sym (r .size-x); near = near }; size = n }
+  sorted-points n = record { is = sym (seg-points px′ py′ both) ∙ points-are ∙ ap (sort s) (seg-points px py (e .both)); even = record { both = both; near = near }; size = n }
     where
-      near : (x : ℕ) → x < length px′ → Within reach (pt px′ py′ x)
+      both : length py′ ≡ length px′
+      both = r .size-y ∙ sym (r .size-x)
+
+      near : (x : ℕ) → x < length px′ → Within reach (pointAt px′ py′ x)
       near x l =
-          subst (λ (y : ℕ). Within reach (pt px′ py′ y)) (plus x)
-          (seg-near (pt px′ py′) 0 (length px′) (subst AllNear (sym points-are) (near-sort s _ points-near)) x l)
+          subst (λ (y : ℕ). Within reach (pointAt px′ py′ y)) (plus x)
+          (seg-near (pointAt px′ py′) 0 (length px′) (subst AllNear (sym points-are) (near-sort s _ points-near)) x l)

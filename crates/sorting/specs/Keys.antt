@@ -10,7 +10,7 @@ use Rattle.tree.specs.Limits.{reach}
 use Rattle.tree.specs.Shape.{count}
 use Rattle.geometry.specs.declared.Point.{Point}
 use Rattle.geometry.specs.Geometry.{gap, dist}
-use Rattle.sorting.specs.Points.{pt}
+use Rattle.tree.specs.Memory.{pointAt}
 
 -- no coordinate is less: −1,000,000
 abbrev pub least : ℤ
@@ -29,13 +29,13 @@ pointOf k = record { xcoord = pos (k / part % part) -ℤ pos reach; ycoord = pos
 -- the first n keys are those of the points
 pub record Keyed (px py : List ℤ) (s : Point) (n : ℕ) (keys : List ℕ) : Type 0 where
   pub size : length keys ≡ length px
-  pub each : (k : ℕ) → k < n → getD keys k 0 ≡ keyOf s (pt px py k)
+  pub each : (k : ℕ) → k < n → getD keys k 0 ≡ keyOf s (pointAt px py k)
 
 -- the first n points are those of the keys
 pub record Read (keys : List ℕ) (n : ℕ) (px py : List ℤ) : Type 0 where
   pub size-x : length px ≡ length keys
   pub size-y : length py ≡ length keys
-  pub each : (k : ℕ) → k < n → pt px py k ≡ pointOf (getD keys k 0)
+  pub each : (k : ℕ) → k < n → pointAt px py k ≡ pointOf (getD keys k 0)
 
 -- ---- sorting
 -- there is a key after j, and it is less than v

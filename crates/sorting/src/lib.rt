@@ -5,14 +5,14 @@ use geometry::Point;
 ghost use mathlib.Core.Path.{_≡_};
 ghost use mathlib.Core.Bool.{true};
 ghost use mathlib.Core.List.{_++_};
-ghost use Prim.Native.Nat.{ℕ, _+_, _<_, _≤_};
+ghost use Prim.Native.Nat.{_+_, _<_, _≤_};
 ghost use lib.IntN.{pos, _-ℤ_};
 ghost use lib.ListN.{length, getD, set, take, drop};
 ghost use lib.Dec.{ltb};
 ghost use Rattle.geometry.specs.Geometry.{gap};
 ghost use Rattle.geometry.specs.Laws.{Within};
 ghost use Rattle.tree.specs.Limits.{reach, mostTerminals};
-ghost use Rattle.sorting.specs.Points.{pt, Even, Sorted};
+ghost use Rattle.sorting.specs.Points.{Even, Sorted};
 ghost use Rattle.sorting.specs.Keys.{least, part, keyOf, pointOf, Keyed, Read, passesKey, placeKey, sortKeys, AllFree, SameKeys};
 
 // No coordinate is less.
@@ -31,16 +31,6 @@ const INDEXES: u32 = 128;
 const FREE: u64 = 18446744073709551615;
 
 // ---- points
-
-pub fn point_at<'a>(px: &'a [i32], py: &'a [i32], i: usize) -> Point
-    requires { ⌜ (i < length (now px)) × (i < length (now py)) ⌝ }
-    ensures { λ r. ⌜ r ≡ pt (now (px .entry)) (now (py .entry)) i ⌝ }
-{
-    Point {
-        xcoord: px[i],
-        ycoord: py[i],
-    }
-}
 
 fn put_point(px: &mut [i32], py: &mut [i32], i: usize, p: Point)
     requires { ⌜ (i < length (now px)) × (i < length (now py)) ⌝ }
@@ -98,7 +88,7 @@ fn put_keys<'a>(px: &'a [i32], py: &'a [i32], s: Point, keys: &mut [u64])
 {
     let mut i: usize = 0;
     while i < keys.len() {
-        let p = point_at(px, py, i);
+        let p = tree::point_at(px, py, i);
         keys[i] = key(s, p);
         i = i + 1;
     }

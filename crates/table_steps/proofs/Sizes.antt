@@ -8,7 +8,7 @@ use Rattle.geometry.specs.declared.Point.{Point}
 use Rattle.geometry.specs.Geometry.{dist}
 use Rattle.tree.specs.Tree.{Tree, Name, source, steiner, terminal, at, nodeAt}
 use Rattle.tree.specs.Search.{Join, onto, split}
-use Rattle.tree.specs.Route.{newNode, attach, joined, join, nextAfter}
+use Rattle.tree.specs.Route.{newNode, joined, join, nextAfter}
 use Rattle.tree.specs.Edits.{Next, steinerAfter, attached, spliced}
 use Rattle.tree.specs.WellFormed.{WellFormed, Fits, newNodes}
 use Rattle.tree.proofs.Nodes.{length-attach, length-split}

@@ -1,16 +1,14 @@
 -- From a step on lent columns to a step of a table: a tree stands in the columns of a table, and what stands there after the step is put together again.
-use Prim.Native.Nat.{ℕ, _+_, _≤_, _<_}
+use Prim.Native.Nat.{ℕ, _+_, _≤_}
 use mathlib.Core.Path.{_≡_, refl, sym, ap, subst, _∙_}
 use native.Mathlib.Omega.{arith}
 use lib.ListN.{length}
-use lib.IntN.{ℤ}
 use Rattle.geometry.specs.declared.Point.{Point}
 use Rattle.geometry.specs.Laws.{Within}
-use Rattle.tree.specs.Limits.{mostNodes, reach, noNode}
+use Rattle.tree.specs.Limits.{mostNodes, reach}
 use Rattle.tree.specs.Tree.{Tree}
 use Rattle.tree.specs.WellFormed.{WellFormed}
-use Rattle.joining.specs.declared.Counts.{Counts}
-use Rattle.joining.specs.Store.{nodeOf, nodesOf, Store, SizedStore, Keeps}
+use Rattle.joining.specs.Store.{nodeOf, nodesOf, SizedStore, Keeps}
 use Rattle.joining.specs.Standing.{Stores, Standing, Grows, Anything}
 use Rattle.optimizing.specs.Removal.{StandsIn}
 use Rattle.joining.proofs.Reading.{length-upto, nodes-are, backs-of, backed-of, sized-columns}

@@ -1,8 +1,6 @@
 -- A node's line in parts, and a node or a list of children as what was written for it.
 use mathlib.Core.Path.{_≡_, refl, sym, ap, subst, _∙_}
 use mathlib.Core.Logic.{inl, inr}
-use mathlib.Core.Bool.{Bool, true, false, cond}
-use lib.Dec.{eqb}
 use mathlib.Core.List.{List, [], _∷_, _++_, reverse, reverse-cons, reverse-reverse, append-assoc, append-nil}
 use Prim.Native.Nat.{ℕ, zero, suc, _+_, _-_, _≤_, _<_}
 use native.Mathlib.Numerals.{add-one}
@@ -13,8 +11,8 @@ use Rattle.decimal.specs.Text.{bytes}
 use Rattle.geometry.specs.declared.Point.{Point}
 use Rattle.tree.specs.Limits.{noNode}
 use Rattle.tree.specs.Tree.{Node, nodeAt}
-use Rattle.search.specs.Walk.{pointAt}
-use Rattle.search.specs.Columns.{Has, chain, chainOf}
+use Rattle.tree.specs.Memory.{pointAt}
+use Rattle.search.specs.Columns.{Has, chain}
 use Rattle.search.proofs.Chains.{Unrolled, unroll, ended}
 use Rattle.joining.specs.Store.{Columns, nameFrom}
 use Rattle.measures.proofs.Lent.{Read}

@@ -2,9 +2,8 @@
 use geometry::Point;
 use output::Answer;
 use tree::NodeIndex;
-ghost use mathlib.Core.Path.{_≡_};
 ghost use mathlib.Core.List.{reverse};
-ghost use Prim.Native.Nat.{ℕ, _+_, _<_, _≤_};
+ghost use Prim.Native.Nat.{_+_, _<_, _≤_};
 ghost use Rattle.tree.specs.Limits.{mostNodes};
 ghost use Rattle.wire.specs.Puts.{Puts};
 ghost use Rattle.search.specs.Columns.{chain};
@@ -78,7 +77,7 @@ fn put_node<'a>(
     ensures { λ r. ⌜ Puts (now (out .entry)) at (textFrom (nodesOf (lent (now (xs .entry)) (now (ys .entry)) (now (path .entry)) (now (parent .entry)) (now (kind .entry)) (now (number .entry)) (now (last .entry)) (now (prev .entry))) n) left level (node .0)) (now (out .exit)) r ⌝ }
 {
     let i = search::wide(node.0);
-    let pt = search::point_at(xs, ys, i);
+    let pt = tree::point_at(xs, ys, i);
     let p = put_line(out, at, level, kind[i], number[i], pt);
     if left == 0 {
         return p;

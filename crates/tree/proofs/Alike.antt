@@ -1,16 +1,14 @@
 -- Jobs alike but for order get the same tree.
-use mathlib.Core.Path.{_≡_, refl, sym, ap, ap₂, subst, _∙_, fun-ext}
-use mathlib.Core.Logic.{_⊎_, inl, inr, ⊎-elim}
-use mathlib.Core.Bool.{Bool, true, false, _||_}
+use mathlib.Core.Path.{_≡_, refl, sym, ap, _∙_}
+use mathlib.Core.Logic.{_⊎_, ⊎-elim}
+use mathlib.Core.Bool.{Bool, true}
 use mathlib.Core.List.{List, [], _∷_, List·Memᴰ, List·Memᴰ·head, List·Memᴰ·tail}
-use Prim.Native.Nat.{ℕ}
-use lib.IntN.{ℤ, pos}
+use lib.IntN.{pos}
 use Rattle.tree.specs.Limits.{noLimit}
 use Rattle.geometry.specs.declared.Point.{Point}
 use Rattle.geometry.specs.declared.Rectangle.{Rectangle}
-use Rattle.tree.specs.Tree.{Tree}
 use Rattle.tree.specs.Search.{anyOf, stops, blocked, find}
-use Rattle.tree.specs.Route.{SameTerminals, SameKeepouts, sort, farthest, join, insert, insertSimple, inserts, rooted, route, Mode, simple, steiners, constraints}
+use Rattle.tree.specs.Route.{SameTerminals, SameKeepouts, join, insert, insertSimple, inserts, rooted, route, Mode, simple, steiners, constraints}
 use Rattle.tree.proofs.Order.{or-split, or-left, or-right, both-ways, clash, sort-same, farthest-same}
 
 module _ {A : Type 0} (f : A → Bool) where

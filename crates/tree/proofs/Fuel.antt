@@ -1,10 +1,9 @@
 -- The walk pops each node at most once, so as many turns as there are nodes empty its stack; with nothing in the way it pops every node. What each pop keeps
 -- therefore holds at the end.
-use mathlib.Core.Path.{_≡_, refl, sym, ap, ap₂, subst, _∙_}
-use mathlib.Core.Logic.{_≢_, _⊎_, inl, inr, ⊎-elim}
+use mathlib.Core.Path.{_≡_, refl, sym, ap, _∙_}
 use mathlib.Core.Bool.{Bool, true, false, cond}
 use mathlib.Core.List.{List, [], _∷_, _++_}
-use Prim.Native.Nat.{ℕ, zero, suc, _+_, _*_, _-_, _≤_, _<_}
+use Prim.Native.Nat.{ℕ, zero, suc, _+_, _-_, _≤_, _<_}
 use native.Mathlib.Decide.{decLt, ℕ-discrete}
 use native.Mathlib.Omega.{arith}
 use lib.ListN.{length, length-append}
@@ -16,7 +15,7 @@ use Rattle.tree.specs.Tree.{one}
 use Rattle.tree.specs.Tree.{Node, Parent, none, at, nodeAt, sumTo}
 use Rattle.tree.specs.Search.{Best, Walk, judge, examine, branches, walk, fresh}
 use Rattle.tree.specs.Shape.{Linked, count, isAt}
-use Rattle.tree.proofs.Linking.{one-eq, one-ne, child-in, counted, parent-in, not-own, none-at, out-parent, count-append}
+use Rattle.tree.proofs.Linking.{one-eq, one-ne, child-in, counted, parent-in, not-own, none-at, count-append}
 use Rattle.tree.proofs.Measuring.{at-inj}
 
 one-most : (t : Bool) → one t ≤ 1

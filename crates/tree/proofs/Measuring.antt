@@ -1,7 +1,7 @@
 -- Joining keeps the measures: path lengths are Manhattan sums, and the total grows by the length that is added.
-use mathlib.Core.Path.{_≡_, refl, sym, ap, ap₂, subst, _∙_}
-use mathlib.Core.Logic.{_≢_, _⊎_, inl, inr, ⊎-elim}
-use mathlib.Core.List.{List, [], _∷_, _++_}
+use mathlib.Core.Path.{_≡_, refl, sym, ap, ap₂, _∙_}
+use mathlib.Core.Logic.{_≢_, _⊎_, ⊎-elim}
+use mathlib.Core.List.{List, []}
 use Prim.Native.Nat.{ℕ, zero, suc, _+_, _≤_, _<_}
 use native.Mathlib.Decide.{decLt}
 use native.Mathlib.Omega.{arith}
@@ -9,12 +9,12 @@ use lib.ListN.{length}
 use Rattle.geometry.specs.declared.Point.{Point}
 use Rattle.geometry.specs.Geometry.{dist}
 use Rattle.tree.specs.Tree.{Node, Name, terminal, steiner, Parent, none, at, nodeAt, replaceLast, sumTo, edge, toParent, total, above, up, climb, climbed}
-use Rattle.tree.specs.Search.{Join, onto, split, branch}
+use Rattle.tree.specs.Search.{split, branch}
 use Rattle.tree.specs.Route.{attach, joined}
 use Rattle.tree.specs.Shape.{Linked, PathSums, Measured}
-use Rattle.geometry.specs.Laws.{dist-self, dist-sym, triangle, via-parent, on-edge, near-parent}
+use Rattle.geometry.specs.Laws.{dist-self, triangle, on-edge}
 use Rattle.tree.proofs.Nodes.{AtNode, new, joint, old, at-node, length-attach, AtSplit, tip, knot, start, end, rest, at-split, length-split}
-use Rattle.tree.proofs.Linking.{child-in, parent-in, not-own, none-at, parent-attach, Over, over-c, over-t, over-s, over-old, parent-split}
+use Rattle.tree.proofs.Linking.{child-in, parent-in, not-own, parent-attach, Over, over-c, over-t, over-s, over-old, parent-split}
 
 -- what no joining changes of a node
 pub record Core : Type 0 where

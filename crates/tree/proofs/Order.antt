@@ -1,15 +1,15 @@
 -- The order of terminals: `ordered s` is a total order of points, so `place` commutes; and a fold whose steps commute depends on how often each point stands there (Folding.antt).
-use mathlib.Core.Path.{_≡_, refl, sym, ap, ap₂, subst, _∙_}
+use mathlib.Core.Path.{_≡_, refl, sym, ap, subst, _∙_}
 use mathlib.Core.Logic.{_⊎_, inl, inr, ⊎-elim}
 use mathlib.Core.Bool.{Bool, true, false, _&&_, _||_, cond}
 use mathlib.Core.List.{List, [], _∷_, foldr}
-use Prim.Native.Nat.{ℕ, zero, suc, _+_, _≤_, _<_, max}
-use native.Mathlib.Decide.{decLe, decLt}
+use Prim.Native.Nat.{ℕ, suc, _+_, _≤_, _<_, max}
+use native.Mathlib.Decide.{decLt}
 use native.Mathlib.Omega.{arith}
-use lib.Dec.{T, ltb, eqb}
+use lib.Dec.{T, ltb}
 use lib.IntN.{ℤ, pos, negsuc}
 use lib.Signed.{leZ, ltZ, mag}
-use borrow.Author.Tests.{ltb-true, ltb-false, eqb-true, lt-ltb, le-ltb, eq-eqb, le-leb}
+use borrow.Author.Tests.{ltb-true, eqb-true, lt-ltb, eq-eqb, le-leb}
 use Rattle.geometry.specs.declared.Point.{Point}
 use Rattle.geometry.specs.Geometry.{dist, same, eqZ}
 use Rattle.tree.specs.Tree.{one}

@@ -1,4 +1,4 @@
--- A routed tree meets demand 3.
+-- A routed tree: its links, names and path lengths, its ceilings and its total, joining by joining. Demand 3 (route/specs/Demand3.antt) is put together of these.
 use mathlib.Core.Path.{_≡_, refl, sym, ap, subst, _∙_}
 use mathlib.Core.Bool.{Bool, true, false, cond}
 use mathlib.Core.List.{List, [], _∷_, _++_, append-assoc, append-nil}
@@ -15,12 +15,12 @@ use Rattle.geometry.specs.Geometry.{dist}
 use Rattle.tree.specs.Tree.{Node, Tree, terminal, none, nodeAt, total, sumTo, terminals, numbered}
 use Rattle.tree.specs.Search.{Join, onto, split, find, blocked}
 use Rattle.tree.specs.Route.{newNode, attach, closest, insertSimple, joined, nextAfter, insert, inserts, rooted, sort, farthest, directs, route, constraints, steiners}
-use Rattle.tree.specs.Shape.{Linked, PathSums, Measured, Named, Ceiling, Bounded, nameOf, count, isAt, Meets}
+use Rattle.tree.specs.Shape.{Linked, PathSums, Measured, Named, Ceiling, Bounded, nameOf, count, isAt}
 use Rattle.tree.specs.WellFormed.{Fits}
-use Rattle.tree.proofs.Order.{farthest-sort, directs-sort, times-sort}
+use Rattle.tree.proofs.Order.{farthest-sort, directs-sort}
 use Rattle.tree.proofs.Nodes.{length-attach, length-split}
 use Rattle.tree.proofs.Linking.{child-in, parent-in, not-own, none-at, linked-attach, linked-split}
-use Rattle.tree.proofs.Measuring.{Core, core, core-new, core-old, core-tip, core-knot, core-rest, sums-attach, sums-split, measured-attach, measured-split, total-attach, total-split, reaches, path-is-sum}
+use Rattle.tree.proofs.Measuring.{Core, core, core-new, core-old, core-tip, core-knot, core-rest, sums-attach, sums-split, measured-attach, measured-split, total-attach, total-split}
 use Rattle.tree.proofs.Naming.{source-terminal, named-split, terminals-joined}
 use Rattle.tree.proofs.Adding.{adds-attach, named-adds}
 use Rattle.tree.proofs.Searching.{added, reach, Worth, find-worth}
@@ -213,17 +213,17 @@ module _ (s : Point) (ts : List Point) (ks : List Rectangle) (allowance : ℕ �
   pub routed : Routed s t
   routed = routed-inserts s ks (sort s ts) t₀ (routed-start s _ _ _) (omega (arith, farthest-sort s ts))
 
-  -- every accepted job with constraints
-  pub route-meets : Meets s ts t
-  route-meets =
-      record {
-        by-number = terminals-inserts s ks (sort s ts) t₀ ∙ ap (λ (l : List (ℕ × Point)). l ++ numbered 1 (sort s ts)) (terminals-start s (allowance (farthest s ts)) (farthest s ts) (farthest s ts));
-        as-often = times-sort s ts;
-        to-source = reaches (routed .linked);
-        path-sums = path-is-sum (routed .linked) (routed .measured);
-        ceilings = subst (λ (w : ℕ). Bounded s (t .allowed) w (t .nodes)) (same-limits s ks (sort s ts) t₀ .1) (routed .bounded);
-        total-low = omega (arith, total-inserts s ks (sort s ts) t₀ (routed-start s _ _ _) (omega (arith, farthest-sort s ts)), total-start s (allowance (farthest s ts)) (farthest s ts) (farthest s ts), directs-sort s ts);
-      }
+  pub route-terminals : terminals (t .nodes) ≡ numbered 1 (sort s ts)
+  route-terminals =
+      terminals-inserts s ks (sort s ts) t₀
+      ∙ ap (λ (l : List (ℕ × Point)). l ++ numbered 1 (sort s ts)) (terminals-start s (allowance (farthest s ts)) (farthest s ts) (farthest s ts))
+
+  pub route-bounded : Bounded s (t .allowed) (farthest s ts) (t .nodes)
+  route-bounded = subst (λ (w : ℕ). Bounded s (t .allowed) w (t .nodes)) (same-limits s ks (sort s ts) t₀ .1) (routed .bounded)
+
+  pub route-total : total (t .nodes) ≤ directs s ts
+  route-total =
+      omega (arith, total-inserts s ks (sort s ts) t₀ (routed-start s _ _ _) (omega (arith, farthest-sort s ts)), total-start s (allowance (farthest s ts)) (farthest s ts) (farthest s ts), directs-sort s ts)
 
 -- ---- mode 0: the links, the names and the terminals
 pub closest-in : (ns : List Node) (q : Point) → 0 < length ns → (k : ℕ) → k ≤ length ns → closest ns q k < length ns
@@ -261,11 +261,11 @@ closest-first ns q (suc k) j h = by (ltb (dist (nodeAt ns k .point) q) (dist (no
     by true e ih l = omega (arith, closest-least ns q k j l, ltb-true (dist (nodeAt ns k .point) q) (dist (nodeAt ns (closest ns q k) .point) q) e)
     by false e ih l = ih l
 
-pub record Planned (t : Tree) : Type 0 where
+pub record LinkedNamed (t : Tree) : Type 0 where
   pub linked : Linked (t .nodes)
   pub named : Named (length (t .nodes)) (nameOf (t .nodes)) (t .nextSteiner) (t .nextTerminal)
 
-planned-simple : (t : Tree) (q : Point) → Planned t → Planned (insertSimple t q)
+planned-simple : (t : Tree) (q : Point) → LinkedNamed t → LinkedNamed (insertSimple t q)
 unfolding insertSimple
 planned-simple t q r =
     let h = closest-in (t .nodes) q (r .linked .some) (length (t .nodes)) (omega arith) in
@@ -274,7 +274,7 @@ planned-simple t q r =
       named = named-adds (adds-attach (t .nodes) _ _ h) _ _ (r .linked .some) refl (r .named);
     }
 
-pub planned-simples : (qs : List Point) (t : Tree) → Planned t → Planned (inserts insertSimple qs t)
+pub planned-simples : (qs : List Point) (t : Tree) → LinkedNamed t → LinkedNamed (inserts insertSimple qs t)
 unfolding inserts
 planned-simples [] t r = r
 planned-simples (q ∷ qs) t r = planned-simples qs (insertSimple t q) (planned-simple t q r)

@@ -1,5 +1,5 @@
 -- What the search finds: a place whose added length is at most the direct distance, and whose path keeps to the allowance, or to the tree limit.
-use mathlib.Core.Path.{_≡_, refl, sym, ap, ap₂, subst, _∙_}
+use mathlib.Core.Path.{_≡_, refl, sym, ap, subst, _∙_}
 use mathlib.Core.Bool.{Bool, true, false, not, _&&_, _||_, cond}
 use mathlib.Core.List.{List, [], _∷_}
 use Prim.Native.Nat.{ℕ, zero, suc, _+_, _≤_, _<_, max}
@@ -8,7 +8,7 @@ use lib.ListN.{length}
 use lib.Dec.{eqb, leb, ltb}
 use lib.IntN.{ℤ, pos, negsuc}
 use lib.Signed.{leZ}
-use borrow.Author.Tests.{ltb-true, ltb-false, leb-true, leb-false, le-leb, eqb-true, eqb-false, not-true, lt-ltb}
+use borrow.Author.Tests.{ltb-true, ltb-false, leb-true, le-leb, eqb-true, not-true}
 use Rattle.geometry.specs.declared.Point.{Point}
 use Rattle.geometry.specs.Geometry.{dist, same, box, nearest}
 use Rattle.tree.specs.Tree.{one}
@@ -16,9 +16,9 @@ use Rattle.tree.specs.Tree.{Node, Parent, none, at, nodeAt}
 use Rattle.tree.specs.Search.{Join, onto, split, Best, Walk, Branch, branch, takes, joinAt, judge, examine, branches, walk, fresh, find}
 use Rattle.tree.specs.Shape.{Linked, Measured, count, isAt}
 use Rattle.tree.specs.WellFormed.{Fits}
-use Rattle.geometry.specs.Laws.{dist-self, dist-sym, triangle, via-parent, on-edge, near-parent}
-use Rattle.tree.proofs.Order.{clash, clash′, and-split, or-split, same-eq}
-use Rattle.tree.proofs.Linking.{child-in, parent-in, not-own, one-eq}
+use Rattle.geometry.specs.Laws.{triangle, via-parent, near-parent}
+use Rattle.tree.proofs.Order.{clash, clash′, and-split, same-eq}
+use Rattle.tree.proofs.Linking.{child-in, parent-in, one-eq}
 use Rattle.tree.proofs.Measuring.{path-direct}
 
 -- ---- a place to join

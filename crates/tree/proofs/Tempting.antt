@@ -1,12 +1,11 @@
 -- Two of document 01's "errors that tempt", shut out of the definitions themselves by computing: an edit of a definition that makes one of them is
 -- refused here. The others change the code's tests, and are refused there.
-use Prim.Native.Nat.{ℕ}
 use mathlib.Core.Path.{_≡_, refl}
 use mathlib.Core.List.{List, [], _∷_, map}
 use lib.IntN.{pos, negℤ}
 use Rattle.geometry.specs.declared.Point.{Point}
 use Rattle.geometry.specs.Geometry.{gap, dist, minZ, maxZ, clip, same, origin}
-use Rattle.tree.specs.Tree.{Node, Parent, none, at, nodeAt, change, without, replaceLast}
+use Rattle.tree.specs.Tree.{Node, none, at, nodeAt, change, without, replaceLast}
 use Rattle.tree.specs.Search.{anyOf, stops, blocked, takes, judge, examine, branches, walk, find}
 use Rattle.tree.specs.Route.{ordered, place, attach, joined, insert, inserts, route, constraints}
 

@@ -1,7 +1,9 @@
--- A node in memory, as the definitions' node, and keepouts as flat numbers. Definitions only.
+-- A node in memory, as the definitions' node; points in two columns, and keepouts as flat numbers. Definitions only.
 use Prim.Native.Nat.{ℕ}
 use mathlib.Core.List.{List, [], _∷_}
-use lib.IntN.{ℤ}
+use lib.ListN.{getD}
+use lib.IntN.{ℤ, pos}
+use Rattle.geometry.specs.declared.Point.{Point}
 use Rattle.geometry.specs.declared.Rectangle.{Rectangle}
 use Rattle.tree.specs.Tree as D
 use Rattle.tree.specs.declared.NodeName.{NodeName}
@@ -31,6 +33,16 @@ nodeIn n cs =
       capacitance = n .capacitance;
       delay = n .delay;
     }
+
+-- the point that stands at i in two columns
+abbrev pub pointAt : List ℤ → List ℤ → ℕ → Point
+pointAt xs ys i = record { xcoord = getD xs i (pos 0); ycoord = getD ys i (pos 0) }
+
+-- the points of two columns, as many as the shorter has
+unfoldable pub pointsOf : List ℤ → List ℤ → List Point
+pointsOf [] l = []
+pointsOf (x ∷ k) [] = []
+pointsOf (x ∷ k) (y ∷ l) = record { xcoord = x; ycoord = y } ∷ pointsOf k l
 
 -- the rectangles of a flat list: lower x, upper x, lower y, upper y; as many as there are four numbers for
 unfoldable pub keepoutsOf : List ℤ → List Rectangle

@@ -12,7 +12,7 @@ use Rattle.geometry.specs.declared.Point.{Point}
 use Rattle.geometry.specs.declared.Rectangle.{Rectangle}
 use Rattle.geometry.specs.Geometry.{dist, same, eqZ}
 use Rattle.tree.specs.Tree.{one}
-use Rattle.tree.specs.Tree.{zeroFigure, Node, Tree, Name, source, steiner, terminal, Parent, none, at, nodeAt, change, withParent, adopt, replaceLast}
+use Rattle.tree.specs.Tree.{zeroFigure, Node, Tree, Name, source, steiner, terminal, none, at, nodeAt, change, withParent, adopt, replaceLast}
 use Rattle.tree.specs.Search.{Join, onto, split, find, blocked, branch}
 
 -- ---- sorting

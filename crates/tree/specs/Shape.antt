@@ -1,16 +1,14 @@
 -- What every tree that the calls give is: its links agree and lead to the source, its names are distinct; and of one that the search routed, that path lengths are Manhattan sums.
 use mathlib.Core.Path.{_≡_}
 use mathlib.Core.List.{List, [], _∷_}
-use Prim.Native.Nat.{ℕ, zero, suc, _+_, _≤_, _<_}
+use Prim.Native.Nat.{ℕ, _+_, _≤_, _<_}
 use lib.ListN.{length}
 use lib.Dec.{eqb}
 use lib.IntN.{ℤ, pos}
 use lib.Signed.{_≤ℤ_}
 use Rattle.geometry.specs.declared.Point.{Point}
 use Rattle.geometry.specs.Geometry.{dist}
-use Rattle.tree.specs.Tree.{one}
-use Rattle.tree.specs.Tree.{Node, Tree, Name, source, steiner, terminal, Parent, none, at, nodeAt, terminals, numbered, climb, climbed, total}
-use Rattle.tree.specs.Route.{sort, farthest, directs, SameTerminals}
+use Rattle.tree.specs.Tree.{one, Node, Name, source, steiner, terminal, Parent, none, at, nodeAt}
 
 -- how often c stands in a list of children
 unfoldable pub count : ℕ → List ℕ → ℕ
@@ -66,19 +64,3 @@ pub record Ceiling (allowed : ℤ) (w d l : ℕ) : Type 0 where
 
 abbrev pub Bounded : Point → ℤ → ℕ → List Node → Type 0
 Bounded s allowed w ns = (i k : ℕ) → i < length ns → nameOf ns i ≡ terminal k → Ceiling allowed w (dist s (nodeAt ns i .point)) (nodeAt ns i .path)
-
--- ---- demand 3, of the tree that a job with constraints gets
-pub record Meets (s : Point) (ts : List Point) (t : Tree) : Type 0 where
-  -- "The points of the terminal nodes, by number from 1, are the job's terminals as sorted."
-  pub by-number : terminals (t .nodes) ≡ numbered 1 (sort s ts)
-  -- "Its terminals are exactly the job's, each as often as the job has it."
-  pub as-often : SameTerminals (sort s ts) ts
-  -- "From every node the parents lead to the source": "repeated steps from a node to its parent, at most as many as there are nodes, end at index 0"
-  pub to-source : (i : ℕ) → i < length (t .nodes) → climb (t .nodes) (length (t .nodes)) i ≡ 0
-  -- "and every path length equals the Manhattan sum along those parents"
-  pub path-sums : (i : ℕ) → i < length (t .nodes) → nodeAt (t .nodes) i .path ≡ climbed (t .nodes) (length (t .nodes)) i
-  -- "Every terminal no farther from the source than the allowance has a path no longer than the allowance. Every other terminal has a path no longer
-  -- than the farthest terminal's distance."
-  pub ceilings : Bounded s (t .allowed) (farthest s ts) (t .nodes)
-  -- "The total is at most the sum of all terminals' direct distances."
-  pub total-low : total (t .nodes) ≤ directs s ts

@@ -4,7 +4,7 @@ use mathlib.Core.Bool.{Bool, true, false, cond}
 use mathlib.Core.List.{List, [], _∷_, _++_}
 use lib.ListN.{length, getD, set}
 use lib.Dec.{eqb}
-use lib.IntN.{ℤ, pos}
+use lib.IntN.{ℤ}
 use lib.Ieee.{Float, binary64, ofBits}
 use Rattle.geometry.specs.declared.Point.{Point}
 use Rattle.geometry.specs.Geometry.{dist, origin}

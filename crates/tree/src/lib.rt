@@ -1,5 +1,9 @@
 // What a tree is: its nodes in memory, and the limits, each once. The definitions and their laws stand in specs/ and proofs/.
 use geometry::Point;
+ghost use mathlib.Core.Path.{_≡_};
+ghost use Prim.Native.Nat.{_<_};
+ghost use lib.ListN.{length};
+ghost use Rattle.tree.specs.Memory.{pointAt};
 
 // No coordinate of a source or terminal is farther from 0.
 pub const REACH: i32 = 1000000;
@@ -25,6 +29,27 @@ pub const SOURCE: u8 = 0;
 pub const STEINER: u8 = 1;
 
 pub const TERMINAL: u8 = 2;
+
+// The refusals' numbers, but for 11, which is `output`'s.
+pub const WRONG_LENGTH: u8 = 1;
+
+pub const TOO_MANY: u8 = 2;
+
+pub const WRONG_OFFSET: u8 = 3;
+
+pub const WRONG_MODE: u8 = 4;
+
+pub const OUTSIDE: u8 = 5;
+
+pub const BAD_KEEPOUT: u8 = 6;
+
+pub const NO_SUCH_NODE: u8 = 7;
+
+pub const NOT_A_CHILD: u8 = 8;
+
+pub const NEW_SOURCE: u8 = 9;
+
+pub const FULL: u8 = 10;
 
 // A node's index, a Steiner number and a terminal number: none serves for another.
 pub struct NodeIndex(pub u16);
@@ -54,4 +79,15 @@ pub struct RoutingNode {
     pub path_length: u32,
     pub capacitance: f64,
     pub delay: f64,
+}
+
+// The point that stands at i in two columns.
+pub fn point_at<'a>(xs: &'a [i32], ys: &'a [i32], i: usize) -> Point
+    requires { ⌜ (i < length (now xs)) × (i < length (now ys)) ⌝ }
+    ensures { λ r. ⌜ r ≡ pointAt (now (xs .entry)) (now (ys .entry)) i ⌝ }
+{
+    Point {
+        xcoord: xs[i],
+        ycoord: ys[i],
+    }
 }

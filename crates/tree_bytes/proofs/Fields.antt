@@ -12,7 +12,7 @@ use Rattle.wire.specs.Fields.{leBytes, bits32, int32Bytes}
 use Rattle.tree.specs.Limits.{mostNodes, noNode}
 use Rattle.tree.specs.Tree.{Node, nodeAt}
 use Rattle.tree.specs.Measures.{kindOf, numberOf, placeUnder}
-use Rattle.search.specs.Walk.{pointAt}
+use Rattle.tree.specs.Memory.{pointAt}
 use Rattle.joining.specs.Store.{Columns, nameFrom, parentFrom}
 use Rattle.measures.proofs.Lent.{Read, point-is}
 use Rattle.tree_bytes.specs.TreeBytes.{parentByte, recordOf, inTurn}

@@ -3,7 +3,7 @@ use geometry::Point;
 use output::Answer;
 ghost use mathlib.Core.Path.{_≡_};
 ghost use mathlib.Core.List.{[], _∷_};
-ghost use Prim.Native.Nat.{ℕ, _<_, _≤_};
+ghost use Prim.Native.Nat.{_<_, _≤_};
 ghost use lib.ListN.{length};
 ghost use Rattle.wire.specs.Puts.{Puts};
 ghost use Rattle.tree.specs.Limits.{mostNodes, noNode};
@@ -100,7 +100,7 @@ fn record_at<'a>(
     let m = number_byte(kind[i], number[i]);
     let p = parent_byte(parent[i]);
     let s = place(xs, ys, path, parent, kind, number, last, prev, n, i);
-    let pt = search::point_at(xs, ys, i);
+    let pt = tree::point_at(xs, ys, i);
     Record {
         kind: k,
         parent: p,

@@ -6,12 +6,12 @@ use Prim.Native.Nat.{ℕ, _+_, _*_, _/_, _%_, _^_, _≤_, _<_}
 use native.Mathlib.Omega.{arith}
 use lib.ListN.{length}
 use Rattle.wire.specs.Fields.{le, leBytes}
-use Rattle.wire.specs.Puts.{Puts, lastPlace, upTo, puts-as, puts-then}
+use Rattle.wire.specs.Puts.{Puts, lastPlace, capped, puts-as, puts-then}
 use Rattle.wire.specs.Laws.{le-upTo, le-split, leBytes-split, leBytes-low}
 
 -- two fields of k bytes, one after the other, are one of twice as many
 pub le-halves : (k : ℕ) (b : List ℕ) (at : ℕ) {next low high : ℕ} → length b ≤ lastPlace
-    → low ≡ le k b at → next ≡ upTo (at + k) → high ≡ le k b next → low + 256 ^ k * high ≡ le (k + k) b at
+    → low ≡ le k b at → next ≡ capped (at + k) → high ≡ le k b next → low + 256 ^ k * high ≡ le (k + k) b at
 le-halves k b at h low next high =
     (λ i. low i + 256 ^ k * (high ∙ ap (le k b) next ∙ le-upTo k b (at + k) h) i) ∙ sym (le-split k k b at)
 

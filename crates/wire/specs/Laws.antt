@@ -16,7 +16,7 @@ use mir.Syntax.{w32}
 use mir.Val.{SFits, toZ, ofZ, sel}
 use mir.ValLaws.{toZ-ofZ, ofZ-toZ, ofZ-fits, toZ-fits}
 use Rattle.wire.specs.Fields.{byte, Bytes, le, leBytes, twos32, bits32, int32, int32Bytes}
-use Rattle.wire.specs.Puts.{Puts, lastPlace, upTo, le-or, puts-room}
+use Rattle.wire.specs.Puts.{Puts, lastPlace, capped, le-or, puts-room}
 
 -- ---- reading
 
@@ -42,14 +42,14 @@ le-past zero b at h = refl
 le-past (suc k) b at h = omega (arith, List·getD-eq-default b 0 h, le-past k b (at + 1) (omega arith))
 
 -- so a place that stopped at the largest usize reads as the place itself
-pub le-upTo : (k : ℕ) (b : List ℕ) (at : ℕ) → length b ≤ lastPlace → le k b (upTo at) ≡ le k b at
+pub le-upTo : (k : ℕ) (b : List ℕ) (at : ℕ) → length b ≤ lastPlace → le k b (capped at) ≡ le k b at
 le-upTo k b at h = ⊎-elim here past (le-or at lastPlace)
   where
-    here : at ≤ lastPlace → le k b (upTo at) ≡ le k b at
-    here g = let e : upTo at ≡ at = omega arith in rw e
+    here : at ≤ lastPlace → le k b (capped at) ≡ le k b at
+    here g = let e : capped at ≡ at = omega arith in rw e
 
-    past : lastPlace ≤ at → le k b (upTo at) ≡ le k b at
-    past g = le-past k b (upTo at) (omega arith) ∙ sym (le-past k b at (omega arith))
+    past : lastPlace ≤ at → le k b (capped at) ≡ le k b at
+    past g = le-past k b (capped at) (omega arith) ∙ sym (le-past k b at (omega arith))
 
 -- its low j bytes, and above them the k others
 pub le-split : (j k : ℕ) (b : List ℕ) (at : ℕ) → le (j + k) b at ≡ le j b at + 256 ^ j * le k b (at + j)

@@ -14,13 +14,13 @@ abbrev pub lastPlace : ℕ
 lastPlace = 18446744073709551615
 
 -- a place counts no further than the largest usize
-abbrev pub upTo : ℕ → ℕ
-upTo n = min n lastPlace
+abbrev pub capped : ℕ → ℕ
+capped n = min n lastPlace
 
 -- l with xs from the place at on is l′ (what would stand past the end is left out), and r is the place after it
 pub record Puts (l : List ℕ) (at : ℕ) (xs l′ : List ℕ) (r : ℕ) : Type 0 where
   pub is : l′ ≡ sets l at xs
-  pub to : r ≡ upTo (at + length xs)
+  pub to : r ≡ capped (at + length xs)
   -- no slice is longer; the laws use it
   pub small : length l ≤ lastPlace
 
@@ -51,7 +51,7 @@ module _ {l xs l′ : List ℕ} {at p : ℕ} (a : Puts l at xs l′ p) where
   puts-small = omega (arith, a .to)
 
   pub puts-as : {ys : List ℕ} → xs ≡ ys → Puts l at ys l′ p
-  puts-as e = record { is = a .is ∙ (λ i. sets l at (e i)); to = a .to ∙ (λ i. upTo (at + length (e i))); small = a .small }
+  puts-as e = record { is = a .is ∙ (λ i. sets l at (e i)); to = a .to ∙ (λ i. capped (at + length (e i))); small = a .small }
 
   -- one after the other
   pub puts-then : {ys l″ : List ℕ} {r : ℕ} → Puts l′ p ys l″ r → Puts l at (xs ++ ys) l″ r

@@ -7,13 +7,13 @@ ghost use mathlib.Core.List.{[], _∷_};
 ghost use Prim.Native.Nat.{_+_, _-_, _*_, _≤_};
 ghost use lib.ListN.{length};
 ghost use Rattle.wire.specs.Fields.{byte, le16, le32, le64, int32, twos32, leBytes, int32Bytes, bits32};
-ghost use Rattle.wire.specs.Puts.{Puts, upTo};
+ghost use Rattle.wire.specs.Puts.{Puts, capped};
 
-const LAST_PLACE: usize = 18446744073709551615;
+pub const LAST_PLACE: usize = 18446744073709551615;
 
 // The place n bytes on. It stops at the largest usize and does not wrap.
 fn after(at: usize, n: usize) -> usize
-    ensures { λ r. ⌜ r ≡ upTo (at + n) ⌝ }
+    ensures { λ r. ⌜ r ≡ capped (at + n) ⌝ }
 {
     if n <= LAST_PLACE - at {
         return at + n;

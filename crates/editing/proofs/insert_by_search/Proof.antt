@@ -1,7 +1,7 @@
 -- `editing::insert_by_search`: 5, 2, 6 in turn, then what `join_found` gives.
 use Rattle.editing.proofs.Refusing.{stop, past, fits, found-is}
 use denote.Ref.{now}
-use mathlib.Core.Path.{refl, sym, _∙_}
+use mathlib.Core.Path.{sym, _∙_}
 use Rattle.job.proofs.Accepted.{within}
 use Rattle.editing.specs.Edits.{insertTerminalWithConstraints}
 use Rattle.editing.proofs.Refusing.{stop, past, fits}

@@ -4,7 +4,6 @@ use native.Mathlib.Omega.{arith}
 use lib.ListN.{getD}
 use lib.Dec.{eqb}
 use Rattle.tree.specs.Tree.{Node}
-use Prim.Native.Nat.{ℕ}
 use Rattle.editing.specs.Edits.{isChildOf}
 use Rattle.editing.proofs.Refusing.{child-is, size}
 use borrow.Author.Needs.{needs}

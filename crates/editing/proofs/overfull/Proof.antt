@@ -1,8 +1,5 @@
 -- `editing::overfull`: the two tests in turn.
 use Rattle.editing.proofs.Refusing.{over, under}
-use mathlib.Core.Path.{ap, sym, _∙_}
-use native.Mathlib.Omega.{arith}
-use borrow.Author.Tests.{lt-ltb, le-ltb}
 use borrow.Author.Needs.{needs}
 use Rattle.editing.proofs.overfull.Statement.{statement}
 use Rattle.editing.proofs.overfull.Tie as tie

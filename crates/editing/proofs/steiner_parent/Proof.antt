@@ -1,5 +1,4 @@
 -- `editing::steiner_parent`: the source, or the node that is named.
-use mathlib.Core.Path.{sym, _∙_}
 use Rattle.editing.proofs.Refusing.{default-is, named-is}
 use borrow.Author.Needs.{needs}
 use Rattle.editing.proofs.steiner_parent.Statement.{statement}

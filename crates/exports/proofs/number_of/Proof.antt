@@ -2,7 +2,7 @@
 use mathlib.Core.Path.{sym, ap, _∙_}
 use mir.Syntax.{w64}
 use mir.Val.{SFits}
-use Rattle.exports.specs.Numbers.{numberOf}
+use Rattle.exports.specs.Numbers.{returnedOf}
 use Rattle.exports.proofs.Numbers.{home64, wrote-fits, wrote-is}
 use borrow.Author.Needs.{needs}
 use Rattle.exports.proofs.number_of.Statement.{statement}
@@ -27,7 +27,7 @@ returns : tie.Need-returns
 returns c = wrote-is (c .before .before .before .pre) (c .before .answer .given .1)
 
 returns-2 : tie.Need-returns-2
-returns-2 c = home64 (refusal-small c) (c .refusal .ensures ∙ sym (ap numberOf (c .before .before .answer2 .given .1)))
+returns-2 c = home64 (refusal-small c) (c .refusal .ensures ∙ sym (ap returnedOf (c .before .before .answer2 .given .1)))
 
 pub number-of-spec : {M : Type 1} → statement M
 number-of-spec =

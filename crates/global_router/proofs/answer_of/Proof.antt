@@ -13,10 +13,10 @@ enum-told : tie.Need-enum-told
 enum-told c = search needs
 
 returns : tie.Need-returns
-returns c = λ t. ap (λ (a : ReadAnswer). J.answerOf a t) (sym (c .before .answer .given .1))
+returns c = λ t. ap (λ (a : ReadAnswer). J.routingFrom a t) (sym (c .before .answer .given .1))
 
 returns-2 : tie.Need-returns-2
-returns-2 c = λ t. ap (λ (a : ReadAnswer). J.answerOf a t) (sym (c .enum-told .given .1))
+returns-2 c = λ t. ap (λ (a : ReadAnswer). J.routingFrom a t) (sym (c .enum-told .given .1))
 
 pub answer-of-spec : {M : Type 1} → statement M
 answer-of-spec = tie.close (tie.spec enum-known-answer enum-told returns returns-2)

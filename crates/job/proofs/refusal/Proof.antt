@@ -13,7 +13,7 @@ use Rattle.geometry.proofs.Chains.{or-stop, or-then}
 use Rattle.tree.specs.Limits.{mostTerminals, mostKeepouts}
 use Rattle.job.specs.Layout.{headerSize, sizeOf}
 use Rattle.job.specs.Job.{readJob, tooMany, wrongLength}
-use Rattle.job.specs.Reading.{numberOf}
+use Rattle.job.specs.Reading.{refusalNumber}
 use Rattle.job.proofs.Verdict.{pass, stop, gives, from-2, from-length, from-3, from-4, from-5, from-6}
 use Rattle.job.proofs.refusal.Statement.{statement}
 use Rattle.job.proofs.refusal.Tie as tie
@@ -73,7 +73,7 @@ wrong-length c = λ i. not (eqb (length (bytes c)) (sizeOf (c .before .terminal-
 
 returns : tie.Need-returns
 unfolding readJob
-returns c = ap numberOf (sym (stop _ _ (lt-ltb (length (bytes (c .before))) headerSize (omega arith))))
+returns c = ap refusalNumber (sym (stop _ _ (lt-ltb (length (bytes (c .before))) headerSize (omega arith))))
 
 at-2 : (c : tie.Else1) → readJob (bytes (c .before)) ≡ from-2 (bytes (c .before))
 unfolding readJob
@@ -140,7 +140,7 @@ returns-8 : tie.Need-returns-8
 returns-8 c = gives 6 _ (at-6 (c .before .before)) (sym (c .before .bad-keepout .ensures) ∙ c .if8 .taken)
 
 returns-9 : tie.Need-returns-9
-returns-9 c = ap numberOf (sym (at-6 (c .before .before) ∙ pass _ _ (sym (c .before .bad-keepout .ensures) ∙ c .if8 .left)))
+returns-9 c = ap refusalNumber (sym (at-6 (c .before .before) ∙ pass _ _ (sym (c .before .bad-keepout .ensures) ∙ c .if8 .left)))
 
 pub refusal-spec : {M : Type 1} → statement M
 refusal-spec =

@@ -17,7 +17,7 @@ use Rattle.measures.proofs.worst_below.Reads as worst-below
 use Rattle.measures.proofs.worst_below.Kinds as worst-below-kinds
 use Rattle.measures.proofs.+worst_below.Lts-worst_below as worst-below-lts
 use Rattle.search.proofs.distance.Reads as distance-reads
-use Rattle.search.proofs.point_at.Reads as point-at-reads
+use Rattle.tree.proofs.point_at.Reads as point-at-reads
 use Rattle.search.proofs.wide.Reads as wide-reads
 use Rattle.measures.proofs.+worst_below.{statement}
 use Rattle.measures.proofs.+worst_below.Tie.{close}

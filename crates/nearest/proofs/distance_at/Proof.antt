@@ -6,7 +6,7 @@ use denote.Ref.{now}
 use Rattle.geometry.specs.Signed.{InPoint}
 use Rattle.geometry.specs.Geometry.{dist}
 use Rattle.geometry.specs.Laws.{dist-small}
-use Rattle.search.specs.Walk.{pointAt}
+use Rattle.tree.specs.Memory.{pointAt}
 use borrow.Author.Needs.{needs}
 use Rattle.nearest.proofs.Filling.{two-gaps}
 use Rattle.nearest.proofs.distance_at.Statement.{statement}

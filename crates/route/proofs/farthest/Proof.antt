@@ -43,7 +43,7 @@ loop-again c =
     scanned-turn _ _ _ _ _ (l .inv) (c .before .before .before .loop-test .taken) _ _ _ (c .before .before .point-at .ensures) (c .before .distance .ensures) (c .larger .ensures)
 
 returns : tie.Need-returns Inv-loop μ-loop
-returns c = scanned-ends _ _ _ _ _ (c .before .loop .inv) (c .loop-test .left)
+returns c = scanned-ends _ _ _ _ _ (c .before .loop .inv) (c .loop-test .left) (c .before .before .pre .0 .both)
 
 pub farthest-spec : {M : Type 1} → statement M
 farthest-spec =

@@ -1,7 +1,7 @@
 -- `search::view_at`: the index is the number itself, so the point and the path are those that stand there.
 use mathlib.Core.Path.{ap, _∙_}
 use lib.ListN.{getD}
-use Rattle.search.specs.Walk.{pointAt}
+use Rattle.tree.specs.Memory.{pointAt}
 use borrow.Author.Needs.{needs}
 use Rattle.search.proofs.view_at.Statement.{statement}
 use Rattle.search.proofs.view_at.Tie as tie

@@ -17,7 +17,7 @@ use Rattle.text.proofs.+put_children+put_node.Lts-put_children as put-c
 use Rattle.text.proofs.put_node.Reads as put-node
 use Rattle.text.proofs.put_node.Kinds as put-node-kinds
 use Rattle.text.proofs.+put_children+put_node.Lts-put_node as put-node-lts
-use Rattle.search.proofs.point_at.Reads as point-at-reads
+use Rattle.tree.proofs.point_at.Reads as point-at-reads
 use Rattle.search.proofs.wide.Reads as wide-reads
 use Rattle.text.proofs.put_line.Reads as put-line-reads
 use Rattle.text.proofs.+put_children+put_node.{statement}

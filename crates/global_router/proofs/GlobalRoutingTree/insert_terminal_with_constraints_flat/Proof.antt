@@ -1,6 +1,6 @@
 -- `GlobalRoutingTree::insert_terminal_with_constraints_flat`: a search with the tree's limit.
 use mathlib.Core.Path.{subst}
-use lib.IntN.{ℤ, pos}
+use lib.IntN.{ℤ}
 use denote.Ref.{now}
 use borrow.Author.Needs.{needs}
 use Rattle.geometry.specs.Signed.{In32, home}

@@ -1,8 +1,8 @@
--- `job::point_at`: each coordinate is read back.
+-- `job::point_from`: each coordinate is read back.
 use borrow.Author.Needs.{needs}
 use Rattle.job.proofs.Locals.{read-back}
-use Rattle.job.proofs.point_at.Statement.{statement}
-use Rattle.job.proofs.point_at.Tie as tie
+use Rattle.job.proofs.point_from.Statement.{statement}
+use Rattle.job.proofs.point_from.Tie as tie
 
 i32-at-requires : tie.Need-i32-at-requires
 i32-at-requires c κs = search needs
@@ -19,5 +19,5 @@ returns c =
     let y = read-back (c .i32-at2 .ok) (c .i32-at2 .ensures) in
     λ i. record { xcoord = x i; ycoord = y i }
 
-pub point-at-spec : {M : Type 1} → statement M
-point-at-spec = tie.close (tie.spec i32-at-requires add-i32-at i32-at-requires-2 returns)
+pub point-from-spec : {M : Type 1} → statement M
+point-from-spec = tie.close (tie.spec i32-at-requires add-i32-at i32-at-requires-2 returns)

@@ -1,8 +1,8 @@
--- `job::interval_at`: each bound is read back.
+-- `job::interval_from`: each bound is read back.
 use borrow.Author.Needs.{needs}
 use Rattle.job.proofs.Locals.{read-back}
-use Rattle.job.proofs.interval_at.Statement.{statement}
-use Rattle.job.proofs.interval_at.Tie as tie
+use Rattle.job.proofs.interval_from.Statement.{statement}
+use Rattle.job.proofs.interval_from.Tie as tie
 
 i32-at-requires : tie.Need-i32-at-requires
 i32-at-requires c κs = search needs
@@ -19,5 +19,5 @@ returns c =
     let u = read-back (c .i32-at2 .ok) (c .i32-at2 .ensures) in
     λ i. record { lb = l i; ub = u i }
 
-pub interval-at-spec : {M : Type 1} → statement M
-interval-at-spec = tie.close (tie.spec i32-at-requires add-i32-at i32-at-requires-2 returns)
+pub interval-from-spec : {M : Type 1} → statement M
+interval-from-spec = tie.close (tie.spec i32-at-requires add-i32-at i32-at-requires-2 returns)
