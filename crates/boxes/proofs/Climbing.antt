@@ -17,8 +17,7 @@ use Rattle.geometry.specs.Geometry.{contains}
 use Rattle.tree.specs.Limits.{noNode}
 use Rattle.tree.specs.Tree.{Node, none, at, nodeAt}
 use Rattle.tree.specs.Shape.{Linked}
-use Rattle.tree.proofs.Linking.{none-at, parent-in, not-own}
-use Rattle.tree.proofs.Measuring.{at-inj}
+use Rattle.tree.proofs.Linking.{none-at, parent-in, not-own, at-inj}
 use Rattle.tree.proofs.Searching.{own}
 use Rattle.search.specs.Boxes.{boxAt, Covers}
 use Rattle.joining.specs.Store.{parentFrom, ParentsIn}
@@ -33,8 +32,7 @@ same-boxes {a} {a′} {b} e f h = subst (HasBox a′) (sym f) (subst (λ (x : Re
 pub covers-all : {ns : List Node} (g : Linked ns) {f : ℕ} {q : Point} {lows highs : List ℤ} → length ns ≤ f → Lacks ns f q lows highs → Covers ns lows highs
 covers-all {ns} g h v =
     record {
-      in-lows = v .room .in-lows;
-      in-highs = v .room .in-highs;
+      room = v .room;
       own = λ i l. point-test (v .own i l);
       below = λ p c l k. box-test (v .below p c (omega arith) (own ns g p c (omega (arith, has-count c (nodeAt ns p .children) k))));
     }

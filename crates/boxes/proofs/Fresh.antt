@@ -30,8 +30,7 @@ pub covers-source : (s : Point) (lows highs : List ℤ) → BoxRoom 1 lows highs
     → Covers (rooted s (pos 0) 0 0 .nodes) lows′ highs′
 covers-source s lows highs room b eb lows′ highs′ r =
     record {
-      in-lows = omega (arith, room .in-lows, r .as-lows);
-      in-highs = omega (arith, room .in-highs, r .as-highs);
+      room = record { in-lows = omega (arith, room .in-lows, r .as-lows); in-highs = omega (arith, room .in-highs, r .as-highs) };
       own = own;
       below = below;
     }
@@ -68,8 +67,7 @@ module _ (m : ℕ) where
   pub covers-any : (ns : List Node) → Linked ns → 2 * length ns ≤ m → ((i : ℕ) → Within reach (nodeAt ns i .point)) → Covers ns (replicate m lowest) (replicate m highest)
   covers-any ns g few near =
       record {
-        in-lows = omega (arith, length-replicate m lowest);
-        in-highs = omega (arith, length-replicate m highest);
+        room = record { in-lows = omega (arith, length-replicate m lowest); in-highs = omega (arith, length-replicate m highest) };
         own = λ i h. point-test (subst (λ (x : Rectangle). HasPoint x (nodeAt ns i .point)) (sym (wide-at i (omega arith))) (record {
           left = low-all _ (near i .xcoord);
           right = high-all _ (near i .xcoord);

@@ -21,7 +21,7 @@ use Rattle.boxes.specs.Covering.{Shown, JoinCovered, Coverable, EndsIn, 
 shown : {t : Tree} {k : Counts} {c : Store} → Stores t k c → Shown (c .rows .xs) (c .rows .ys) (c .rows .parent) (t .nodes)
 shown s = record { points = λ i h. sym (ap (λ (n : Node). n .point) (s .keeps .rows i h)); parents = λ i h. ap (λ (n : Node). n .parent) (s .keeps .rows i h) }
 
-most : (x : T.Join) → newNodes x ≤ 2
+pub most : (x : T.Join) → newNodes x ≤ 2
 most (T.onto p) = omega arith
 most (T.split p d) = omega arith
 

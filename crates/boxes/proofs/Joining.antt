@@ -18,8 +18,8 @@ use Rattle.tree.specs.Shape.{Linked}
 use Rattle.tree.specs.WellFormed.{newNodes}
 use Rattle.tree.specs.declared.NodeIndex.{NodeIndex}
 use Rattle.tree.proofs.Nodes.{length-attach, length-split}
-use Rattle.tree.proofs.Linking.{child-in, parent-in, not-own, counted, parent-attach, Over, over-c, over-t, over-s, over-old, parent-split}
-use Rattle.tree.proofs.Measuring.{Core, at-inj, core-new, core-old, core-tip, core-knot, core-rest}
+use Rattle.tree.proofs.Linking.{child-in, parent-in, not-own, counted, parent-attach, Over, over-c, over-t, over-s, over-old, parent-split, at-inj}
+use Rattle.tree.proofs.Measuring.{Core, core-new, core-old, core-tip, core-knot, core-rest}
 use Rattle.tree.proofs.Routing.{linked-joined}
 use Rattle.search.specs.declared.Join.{Join}
 use Rattle.search.specs.declared.Join.the-variants.{Onto, Split}

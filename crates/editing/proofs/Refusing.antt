@@ -12,7 +12,7 @@ use Rattle.geometry.specs.declared.Point.{Point}
 use Rattle.geometry.specs.Laws.{Within}
 use Rattle.tree.specs.Limits.{mostNodes, noNode, reach}
 use Rattle.tree.specs.Route.{closest}
-use Rattle.tree.proofs.Order.{clash′}
+use Rattle.tree.proofs.Deciding.{never}
 use Rattle.tree.proofs.Routing.{closest-in}
 use Rattle.tree.proofs.Fitting.{find-fits}
 use Rattle.search.specs.declared.Query.{Query}
@@ -29,9 +29,10 @@ use Rattle.tree.specs.WellFormed.{newNodes, Fits}
 use Rattle.tree.specs.Measures as M
 use Rattle.tree.specs.declared.NodeIndex.{NodeIndex}
 use Rattle.tree.specs.declared.NodeName.{NodeName}
-use Rattle.joining.specs.Store.{nodeOf, parentFrom}
-use Rattle.joining.proofs.Reading.{length-upto, kept, walks}
+use Rattle.joining.specs.Store.{parentFrom}
+use Rattle.joining.proofs.Reading.{kept, walks}
 use Rattle.job.proofs.Any.{or-no}
+use Rattle.nodes.proofs.TableSizes.{size, few, of-all}
 use Rattle.nodes.specs.declared.Table.{Table}
 use Rattle.nodes.specs.declared.Lookup.{Lookup}
 use Rattle.nodes.specs.declared.Lookup.the-variants.{Missing, Found}
@@ -44,7 +45,7 @@ use Rattle.editing.specs.declared.ParentName.{ParentName}
 use Rattle.editing.specs.declared.ParentName.the-variants.{Default, Of}
 use Rattle.editing.specs.declared.NodeType.{NodeType}
 use Rattle.editing.specs.Edits as D
-use Rattle.editing.specs.Edits.{refused, inserted, atNode, full, passes, newNames, isChildOf, nodeNamed, parentNode, spliceKind, joinFound}
+use Rattle.editing.specs.Edits.{refused, inserted, atNode, full, passes, newNames, isChildOf, parentNode, spliceKind, joinFound}
 use Rattle.table_steps.specs.Steps.{Stepped, steinerIn, newNumber, Room}
 use Rattle.editing.specs.Editing.{parentNameOf, kindIn, Edits, overfull}
 
@@ -63,14 +64,6 @@ module _ {t : Table} {r : Edit} (f : ℕ → D.Edit) {l : M.Lookup} {x : Lookup}
 
   pub there : {p : NodeIndex} → x ≡ Found p → Edits (f (p .0)) t r → Edits (atNode l f) t r
   there e v = subst (λ (y : M.Lookup). Edits (atNode y f) t r) (ap lookupOf (sym e) ∙ h) v
-
--- how many nodes the tree of a table has
-pub size : (t : Table) → length (tableTree t .nodes) ≡ t .counts .nodes
-size t = length-upto (nodeOf (tableColumns t)) (t .counts .nodes)
-
--- of all nodes
-pub of-all : (t : Table) (n : Name) {l : M.Lookup} → l ≡ M.lookup (tableTree t .nodes) n (t .counts .nodes) → l ≡ nodeNamed (tableTree t) n
-of-all t n h = h ∙ ap (M.lookup (tableTree t .nodes) n) (sym (size t))
 
 -- a node that a name leads to is in the tree
 pub in-tree : (t : Table) (n : Name) {x : Lookup} {p : NodeIndex} → lookupOf x ≡ M.lookup (tableTree t .nodes) n (t .counts .nodes) → x ≡ Found p → p .0 < t .counts .nodes
@@ -116,12 +109,12 @@ child-is x p h = by (eqb x noNode) refl
 
 -- a branch end that is a child of the start
 pub is-child-of : (p : ℕ) (x : Parent) (s : Bool) → s ≡ isChildOf p x → not s ≡ false → x ≡ at p
-is-child-of p none s h e = clash′ (sym (ap not h) ∙ e)
+is-child-of p none s h e = never (sym (ap not h) ∙ e)
 is-child-of p (at x) s h e = ap at (sym (eqb-true p x (sym h ∙ yes s e)))
   where
     yes : (b : Bool) → not b ≡ false → b ≡ true
     yes true e = refl
-    yes false e = clash′ e
+    yes false e = never e
 
 -- the kind of the new node
 pub of-kind : {t : Table} {r : Edit} (q : Point) (p c : ℕ) {k l : NodeType} → k ≡ l → Edits (spliceKind (kindIn l) (tableTree t) q p c) t r → Edits (spliceKind (kindIn k) (tableTree t) q p c) t r
@@ -179,14 +172,11 @@ gives {n = n} v = record { is = ap (inserted (nameIn n)) (v .is); kept = tt; tab
 
 -- ---- a tree in columns, as the search reads it; and its closest node
 module _ {t : Table} (v : Tabled t) where
-  few : length (tableTree t .nodes) ≤ mostNodes
-  few = omega (arith, size t, v .few)
-
   pub closest-low : (q : Point) → closest (tableTree t .nodes) q (length (tableTree t .nodes)) < t .counts .nodes
   closest-low q = omega (arith, closest-in (tableTree t .nodes) q (v .formed .linked .some) (length (tableTree t .nodes)) (omega arith), size t)
 
   readable : Kept (tableTree t .nodes) (t .xs) (t .ys) (t .path) (t .last) (t .prev)
-  readable = kept (tableTree t) (v .formed) few mostNodes (tableColumns t) (v .sized) (v .keeps) few
+  readable = kept (tableTree t) (v .formed) (few v) mostNodes (tableColumns t) (v .sized) (v .keeps) (few v)
 
   module _ (a : Query) (near : Within reach (a .point)) (n : ℕ) (e : n ≡ t .counts .nodes) where
     pub ready : Ready n a (t .xs) (t .ys) (t .path) (t .last) (t .prev) (replicate (2 * mostNodes) lowest) (replicate (2 * mostNodes) highest)
@@ -196,14 +186,14 @@ module _ {t : Table} (v : Tabled t) where
           size = size t ∙ sym e;
           small = omega (arith, v .few, e);
           kept = readable;
-          tree = walks (tableTree t) (v .formed) few;
-          covers = covers-any (2 * mostNodes) (tableTree t .nodes) (v .formed .linked) (omega (arith, few)) (v .formed .near);
+          tree = walks (tableTree t) (v .formed) (few v);
+          covers = covers-any (2 * mostNodes) (tableTree t .nodes) (v .formed .linked) (omega (arith, few v)) (v .formed .near);
           within = near;
         }
 
     pub finds : (ks : List ℤ) (j : Join) → Joins n a (t .xs) (t .ys) (t .path) (t .last) (t .prev) ks j
         → joinOf j ≡ T.find (T.blocked (keepoutsOf ks)) (tableTree t .nodes) (a .limit) (a .allowed) (a .point)
-    finds ks j h = h (tableTree t .nodes) (size t ∙ sym e) (walks (tableTree t) (v .formed) few) readable
+    finds ks j h = h (tableTree t .nodes) (size t ∙ sym e) (walks (tableTree t) (v .formed) (few v)) readable
 
 -- the edit with the place that the search finds, with the tree's own limit
 pub found-is : {t : Table} {r : Edit} (ks : List ℤ) (a : Query) (j : T.Join) → a .limit ≡ t .limit

@@ -7,13 +7,13 @@ use lib.Dec.{eqb, ltb}
 use lib.IntN.{ℤ, pos}
 use Rattle.geometry.specs.declared.Point.{Point}
 use Rattle.geometry.specs.declared.Rectangle.{Rectangle}
-use Rattle.tree.specs.Limits.{mostKeepouts, mostNodes}
+use Rattle.tree.specs.Limits.{mostNodes}
 use Rattle.tree.specs.Tree.{Tree, Name, source, steiner, terminal, Parent, none, at, nodeAt}
 use Rattle.tree.specs.Search.{Join, onto, split, anyOf, blocked, find}
-use Rattle.tree.specs.Route.{join, closest}
-use Rattle.tree.specs.Edits.{attached, spliced}
-use Rattle.tree.specs.Measures.{Lookup, missing, found, lookup}
-use Rattle.job.specs.Job.{outside, invalidKeepout}
+use Rattle.tree.specs.Route.{join, closest, attached}
+use Rattle.tree.specs.Edits.{spliced}
+use Rattle.tree.specs.Measures.{Lookup, missing, found, lookupIn}
+use Rattle.job.specs.Job.{outside, tooManyKeepouts, invalidKeepout}
 
 -- what an edit answers: "A refusal gives its number; the tree value and all lent bytes are then as before". Else the new node's name (of two new nodes,
 -- the terminal's), and the tree
@@ -28,7 +28,7 @@ atNode missing then = refused 7
 atNode (found i) then = then i
 
 abbrev pub nodeNamed : Tree → Name → Lookup
-nodeNamed t n = lookup (t .nodes) n (length (t .nodes))
+nodeNamed t n = lookupIn (t .nodes) n
 
 -- "a new Steiner number would pass 250"
 abbrev pub passes : Name → Bool
@@ -108,7 +108,7 @@ joinFound t q j = cond (full (length (t .nodes)) (newNames t j)) (refused 10) (i
 unfoldable pub insertTerminalWithConstraints : Tree → Point → ℤ → List Rectangle → Edit
 insertTerminalWithConstraints t q allowed ks =
     cond (outside q) (refused 5)
-    (cond (ltb mostKeepouts (length ks)) (refused 2)
+    (cond (tooManyKeepouts ks) (refused 2)
     (cond (anyOf invalidKeepout ks) (refused 6)
     (joinFound t q (find (blocked ks) (t .nodes) (t .limit) allowed q))))
 

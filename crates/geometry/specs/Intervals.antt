@@ -13,7 +13,7 @@ use Rattle.geometry.specs.Geometry.{gap, dist, minZ, maxZ, hull, box, cl
 use Rattle.geometry.specs.Signed.{is-true, bias, In, in-a, in-b, in-c, le-yes, le-in, gap-bias, min-in, max-in, bias-min, bias-max, clip-in, bias-clip, and-left, and-right}
 
 -- ---- order
-le-back : {K : ℕ} (x y : ℤ) → In K x → In K y → bias K x ≤ bias K y → leZ x y ≡ true
+pub le-back : {K : ℕ} (x y : ℤ) → In K x → In K y → bias K x ≤ bias K y → leZ x y ≡ true
 le-back x y f g h = is-true (leZ x y) (le-in x y f g h .le)
 
 module _ (a b c : ℤ) where

@@ -142,7 +142,7 @@ module _ {K : ℕ} (i : Interval) (v : ℤ) (fl : In K (i .lb)) (fu : In K (i .u
   bias-clip = bias-max _ _ fl (min-in _ _ fv fu) ∙ ap (λ (n : ℕ). max (bias K (i .lb)) n) (bias-min _ _ fv fu)
 
 -- ---- equality
-le-refl : (x : ℤ) → leZ x x ≡ true
+pub le-refl : (x : ℤ) → leZ x x ≡ true
 le-refl (pos n) = le-leb n n (omega arith)
 le-refl (negsuc n) = le-leb n n (omega arith)
 

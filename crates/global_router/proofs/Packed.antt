@@ -1,5 +1,5 @@
 -- A tree that the router left in columns, packed into nodes: it is the same tree, and what the columns show holds of it.
-use Prim.Native.Nat.{ℕ, zero, suc, _≤_, _<_}
+use Prim.Native.Nat.{ℕ, zero, suc, _<_}
 use mathlib.Core.Path.{_≡_, refl, sym, ap, subst}
 use mathlib.Core.List.{List, [], _∷_, _++_}
 use native.Mathlib.Omega.{arith}
@@ -10,10 +10,11 @@ use Rattle.tree.specs.Limits.{mostNodes}
 use Rattle.tree.specs.Tree.{Node}
 use Rattle.tree.specs.WellFormed.{WellFormed}
 use Rattle.tree.specs.declared.RoutingNode.{RoutingNode}
-use Rattle.tree.proofs.Measuring.{reaches}
+use Rattle.tree.proofs.Climbing.{reaches}
 use Rattle.search.specs.Columns.{Chain, Chained}
 use Rattle.joining.specs.Store.{nodeOf, upTo}
-use Rattle.joining.proofs.Reading.{length-upto, children-are}
+use Rattle.joining.proofs.Reading.{children-are}
+use Rattle.nodes.proofs.TableSizes.{size, few}
 use Rattle.nodes.specs.Nodes.{Packs}
 use Rattle.nodes.specs.declared.Table.{Table}
 use Rattle.nodes.specs.Table.{tableColumns, tableTree, Tabled}
@@ -57,20 +58,14 @@ module _ (t : Table) (v : Tabled t) (nodes : List RoutingNode) (packs : Packs (t
         nextTerminal = t .counts .terminal .0;
       }
 
-  size : length (tableTree t .nodes) ≡ t .counts .nodes
-  size = length-upto (nodeOf (tableColumns t)) (t .counts .nodes)
-
-  few : length (tableTree t .nodes) ≤ mostNodes
-  few = omega (arith, size, v .few)
-
   formed : WellFormed (treeOf (memory t nodes (t .allowed)))
   formed = subst WellFormed (sym packed-is) (v .formed)
 
   chains : (p : ℕ) → p < t .counts .nodes → Chained (t .prev) (getD (t .last) p 0)
   chains p h =
-      let l : p < length (tableTree t .nodes) = omega (arith, size) in
+      let l : p < length (tableTree t .nodes) = omega (arith, size t) in
       record {
-        is = subst (Chain (t .prev) (getD (t .last) p 0)) (sym (children-are (tableTree t) (v .formed) few mostNodes (tableColumns t) (v .sized) (v .keeps) few p l)) (v .keeps .children p l);
+        is = subst (Chain (t .prev) (getD (t .last) p 0)) (sym (children-are (tableTree t) (v .formed) (few v) mostNodes (tableColumns t) (v .sized) (v .keeps) (few v) p l)) (v .keeps .children p l);
       }
 
   packed-stored : Stored (memory t nodes (t .allowed))

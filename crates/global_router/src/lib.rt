@@ -389,7 +389,7 @@ impl GlobalRoutingTree {
         requires { ⌜ Stored self × («keepouts» .count ≤ room) ⌝ }
         ensures { λ r. ⌜ EditedBy (insertTerminalWithSteiner (treeOf self) «point») «keepouts» self r ⌝ }
     {
-        let n = 4 * keepouts.count;
+        let n = tree::KEEPOUT_BOUNDS * keepouts.count;
         let bounds = keepouts.bounds;
         self.insert_terminal_with_steiner_flat(point, &bounds[..n])
     }
@@ -403,7 +403,7 @@ impl GlobalRoutingTree {
         requires { ⌜ Stored self × («keepouts» .count ≤ room) ⌝ }
         ensures { λ r. ⌜ EditedBy (insertTerminalWithConstraints (treeOf self) «point» «allowed_wirelength») «keepouts» self r ⌝ }
     {
-        let n = 4 * keepouts.count;
+        let n = tree::KEEPOUT_BOUNDS * keepouts.count;
         let bounds = keepouts.bounds;
         self.insert_terminal_with_constraints_flat(point, allowed_wirelength, &bounds[..n])
     }

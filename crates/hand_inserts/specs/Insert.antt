@@ -5,7 +5,8 @@ use lib.ListN.{length}
 use Rattle.geometry.specs.declared.Point.{Point}
 use Rattle.tree.specs.Tree.{Tree, Name, at, nodeAt}
 use Rattle.tree.specs.Measures.{kindOf, numberOf}
-use Rattle.tree.specs.Edits.{Next, steinerAfter, terminalAfter, attached, spliced}
+use Rattle.tree.specs.Route.{steinerAfter, terminalAfter, attached}
+use Rattle.tree.specs.Edits.{Next, spliced}
 use Rattle.search.specs.Walk.{nodeIndex}
 use Rattle.joining.specs.declared.Counts.{Counts}
 use Rattle.joining.specs.declared.Row.{Row}

@@ -15,16 +15,13 @@ ghost use Rattle.joining.specs.Store.{rowsOf, store, setRow, setParent, SizedRo
 ghost use Rattle.joining.specs.Standing.{Standing};
 ghost use Rattle.hand_inserts.specs.Insert.{newRow, countsAfter, Below, Between, LeafInserted, LinkedBetween, BetweenInserted};
 
-// The path length of a node that is inserted by hand.
-const UNMEASURED: u32 = 0;
-
 // The row of a new node at q below p.
 fn new_row(name: NodeName, q: Point, p: NodeIndex) -> Row
     ensures { λ r. ⌜ r ≡ newRow (nameIn name) q (p .0) ⌝ }
 {
     Row {
         point: q,
-        path: UNMEASURED,
+        path: tree::UNMEASURED,
         parent: p,
         kind: nodes::kind_of_name(name),
         number: nodes::number_of_name(name),

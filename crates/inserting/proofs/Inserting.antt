@@ -9,12 +9,11 @@ use Rattle.geometry.specs.declared.Point.{Point}
 use Rattle.tree.specs.Limits.{mostNodes}
 use Rattle.tree.specs.Tree.{Node, Tree, terminal}
 use Rattle.tree.specs.Search as T
-use Rattle.tree.specs.Route.{closest, insertSimple, insert}
+use Rattle.tree.specs.Route.{closest, insertSimple, insert, attached}
 use Rattle.tree.specs.Route as TR
 use Rattle.tree.specs.WellFormed.{WellFormed, Fits, newNodes}
 use Rattle.tree.proofs.Routing.{closest-in}
 use Rattle.tree.proofs.Fitting.{find-fits}
-use Rattle.tree.specs.Edits.{attached}
 use Rattle.search.specs.declared.Query.{Query}
 use Rattle.search.specs.declared.Join.{Join}
 use Rattle.tree.specs.Memory.{keepoutsOf}
@@ -27,6 +26,7 @@ use Rattle.joining.specs.Standing.{Stores, Standing, Anything, At}
 use Rattle.joining.proofs.Reading.{sized-columns, walks, kept}
 use Rattle.joining.proofs.Placing.{weaker, few, may-attach}
 use Rattle.joining.proofs.Growing.{stores-terminal, sized-terminal}
+use Rattle.boxes.proofs.Growing.{most}
 use Rattle.inserting.specs.declared.Way.{Way}
 use Rattle.inserting.specs.declared.Way.the-variants.{Simple, Search}
 use Rattle.boxes.specs.Covering.{JoinedUnder}
@@ -76,10 +76,6 @@ module _ {k : Counts} {c : Store} (a : Query) (lows highs : List ℤ) (way : Way
   as-search e = subst (λ (x : Way). Standing (Asked x a lows highs) 2 (a .point) k c) e v
 
 -- ---- by the search
-most : (x : T.Join) → newNodes x ≤ 2
-most (T.onto p) = omega arith
-most (T.split p d) = omega arith
-
 module _ {k : Counts} {c : Store} (a : Query) (lows highs : List ℤ) (v : Standing (Asked Search a lows highs) 2 (a .point) k c) (w : ℕ) (ew : w ≡ k .nodes) where
   pub summed : Summed w a (c .rows .xs) (c .rows .ys) (c .rows .path) (c .rows .parent) (c .links .last) (c .links .prev) lows highs
   summed =

@@ -25,9 +25,6 @@ pub enum Way {
     Search,
 }
 
-// The path length of a terminal that joins the closest node.
-const UNMEASURED: u32 = 0;
-
 // ---- one terminal
 
 // A terminal at q joins the closest node; its path length stays 0.
@@ -50,7 +47,7 @@ fn insert_simple(
     let p = find_nearest_node(xs, ys, k.nodes, q);
     let row = Row {
         point: q,
-        path: UNMEASURED,
+        path: tree::UNMEASURED,
         parent: p,
         kind: tree::TERMINAL,
         number: k.terminal.0,

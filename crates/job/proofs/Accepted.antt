@@ -16,10 +16,11 @@ use Rattle.geometry.specs.Geometry.{origin, invalid, contains, inside}
 use Rattle.geometry.specs.Signed.{and-left, and-right, no-way}
 use Rattle.geometry.specs.Laws.{Within}
 use Rattle.tree.specs.Limits.{reach, mostTerminals}
+use Rattle.tree.specs.Memory.{pointAt}
 use Rattle.tree.specs.Search.{anyOf}
 use Rattle.job.specs.Job.{Job, accepted, coordinates, outside, invalidKeepout, terminalsOf, sourceOf, jobOf, readJob}
 use Rattle.job.specs.Reading.{filled, packed, refusalNumber}
-use Rattle.job.specs.Accepted.{Valid, Accepted, AcceptedInMemory}
+use Rattle.job.specs.Accepted.{Valid, Accepted}
 use Rattle.job.proofs.Any.{or-no, none-of}
 use Rattle.job.proofs.Verdict.{passed, few-of}
 use Rattle.job.proofs.Packing.{terminals-length, keepouts-length}
@@ -82,15 +83,10 @@ member [] i h = absurd (omega arith)
 member (p ∷ l) zero h = List·Memᴰ·head refl
 member (p ∷ l) (suc i) h = List·Memᴰ·tail (member l i (omega arith))
 
-pub in-memory : (j : Job) → Accepted j → AcceptedInMemory (packed j)
-in-memory j a =
-    record {
-      few-terminals = a .few-terminals;
-      few-keepouts = a .few-keepouts;
-      source = a .source;
-      terminals = λ i h.
-          let x = getD-filled mostTerminals (λ p. p .xcoord) (j .terminals) i h in
-          let y = getD-filled mostTerminals (λ p. p .ycoord) (j .terminals) i h in
-          let w = a .terminals (member (j .terminals) i h) in
-          record { xcoord = rw x (w .xcoord); ycoord = rw y (w .ycoord) };
-    }
+-- the terminals of the job in memory, by index
+pub near-in-memory : (j : Job) → Accepted j → (i : ℕ) → i < length (j .terminals) → Within reach (pointAt (packed j .«terminal_xs») (packed j .«terminal_ys») i)
+near-in-memory j a i h =
+    let x = getD-filled mostTerminals (λ p. p .xcoord) (j .terminals) i h in
+    let y = getD-filled mostTerminals (λ p. p .ycoord) (j .terminals) i h in
+    let w = a .terminals (member (j .terminals) i h) in
+    record { xcoord = rw x (w .xcoord); ycoord = rw y (w .ycoord) }

@@ -3,11 +3,11 @@ use mathlib.Core.Path.{_≡_, refl, sym, ap, _∙_}
 use mathlib.Core.Bool.{Bool, true, false, _||_}
 use mathlib.Core.List.{List, [], _∷_, List·Memᴰ, List·Memᴰ·head, List·Memᴰ·tail}
 use Rattle.tree.specs.Search.{anyOf}
-use Rattle.tree.proofs.Order.{clash′}
+use Rattle.tree.proofs.Deciding.{never}
 
 pub or-no : (a b : Bool) → (a || b) ≡ false → (a ≡ false) × (b ≡ false)
 or-no false b e = (refl, e)
-or-no true b e = clash′ e
+or-no true b e = never e
 
 module _ {A : Type 0} (f : A → Bool) where
   pub none-of : {k : A} {l : List A} → List·Memᴰ k l → anyOf f l ≡ false → f k ≡ false

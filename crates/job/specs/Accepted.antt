@@ -1,17 +1,15 @@
--- What every accepted job has. `proofs/Accepted.antt` shows it: `readJob b ≡ accepted j → Accepted j`, and so of the job in memory.
+-- What every accepted job has. `proofs/Accepted.antt` shows it: `readJob b ≡ accepted j → Accepted j`.
 use mathlib.Core.Path.{_≡_}
 use mathlib.Core.Bool.{false}
 use mathlib.Core.List.{List·Memᴰ}
-use Prim.Native.Nat.{ℕ, _≤_, _<_}
-use lib.ListN.{length, getD}
-use lib.IntN.{pos}
+use Prim.Native.Nat.{_≤_}
+use lib.ListN.{length}
 use Rattle.geometry.specs.declared.Point.{Point}
 use Rattle.geometry.specs.declared.Rectangle.{Rectangle}
 use Rattle.geometry.specs.Geometry.{invalid}
 use Rattle.geometry.specs.Laws.{Within}
 use Rattle.tree.specs.Limits.{reach, mostTerminals, mostKeepouts}
 use Rattle.job.specs.Job.{Job}
-use Rattle.job.specs.declared.RoutingJob.{RoutingJob}
 
 -- neither interval of a keepout has its lower bound above its upper one
 pub record Valid (k : Rectangle) : Type 0 where
@@ -24,10 +22,3 @@ pub record Accepted (j : Job) : Type 0 where
   pub source : Within reach (j .source)
   pub terminals : {p : Point} → List·Memᴰ p (j .terminals) → Within reach p
   pub keepouts : {k : Rectangle} → List·Memᴰ k (j .keepouts) → Valid k
-
--- the same of the job in memory, each terminal by its index
-pub record AcceptedInMemory (r : RoutingJob) : Type 0 where
-  pub few-terminals : r .«terminal_count» ≤ mostTerminals
-  pub few-keepouts : r .«keepout_count» ≤ mostKeepouts
-  pub source : Within reach (r .source)
-  pub terminals : (i : ℕ) → i < r .«terminal_count» → Within reach (record { xcoord = getD (r .«terminal_xs») i (pos 0); ycoord = getD (r .«terminal_ys») i (pos 0) })

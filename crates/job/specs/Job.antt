@@ -89,6 +89,10 @@ coordinates = record { lb = negℤ (pos reach); ub = pos reach }
 unfoldable pub outside : Point → Bool
 outside p = not (contains (record { xcoord = coordinates; ycoord = coordinates }) p)
 
+-- 2, of the keepouts that an edit is given: more than a job may have
+abbrev pub tooManyKeepouts : List Rectangle → Bool
+tooManyKeepouts ks = ltb mostKeepouts (length ks)
+
 -- "a keepout interval with lower above upper"
 unfoldable pub invalidKeepout : Rectangle → Bool
 invalidKeepout k = invalid (k .xcoord) || invalid (k .ycoord)

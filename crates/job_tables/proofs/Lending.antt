@@ -1,4 +1,4 @@
--- What an accepted job in memory lends to the router, and that its plan can be packed.
+-- What an accepted job in memory lends to the router; and the plan of it is the tree of the job, in a table that keeps it.
 use Prim.Native.Nat.{ℕ, _*_, _≤_, _<_}
 use mathlib.Core.Path.{_≡_, sym, ap, subst, _∙_}
 use mathlib.Core.List.{List}
@@ -12,10 +12,9 @@ use Rattle.tree.specs.Limits.{reach, mostTerminals, mostKeepouts}
 use Rattle.tree.specs.Route.{route}
 use Rattle.job.specs.declared.RoutingJob.{RoutingJob}
 use Rattle.job.specs.Job.{Job}
-use Rattle.job.specs.Reading.{xcoords, ycoords, flat, packed, unpacked}
+use Rattle.job.specs.Reading.{xcoords, ycoords, flat, unpacked}
 use Rattle.job.proofs.Packing.{filled-length, flat-length, xs-back, ys-back, flat-back, points-back, rectangles-back}
-use Rattle.job.specs.Accepted.{AcceptedInMemory}
-use Rattle.job.proofs.Accepted.{in-memory}
+use Rattle.job.proofs.Accepted.{near-in-memory}
 use Rattle.tree.specs.Memory.{pointAt, pointsOf, keepoutsOf}
 use Rattle.sorting.specs.Points.{Even}
 use Rattle.nodes.specs.declared.Table.{Table}
@@ -91,8 +90,9 @@ module _ (j : RoutingJob) (v : Sound j) where
   ks-are : keepoutsOf ks ≡ J .keepouts
   ks-are = ap keepoutsOf ((λ i. take (4 * v .packing i .«keepout_count») (v .packing i .keepouts)) ∙ flat-back J) ∙ rectangles-back (J .keepouts)
 
-  in-columns : AcceptedInMemory j
-  in-columns = subst AcceptedInMemory (sym (v .packing)) (in-memory J (v .accepted))
+  near-in : (k : ℕ) → k < j .«terminal_count» → Within reach (pointAt (j .«terminal_xs») (j .«terminal_ys») k)
+  near-in k h =
+      subst (λ (x : RoutingJob). Within reach (pointAt (x .«terminal_xs») (x .«terminal_ys») k)) (sym (v .packing)) (near-in-memory J (v .accepted) k (omega (arith, count-is)))
 
   point-is : (k : ℕ) → k < j .«terminal_count» → pointAt px py k ≡ pointAt (j .«terminal_xs») (j .«terminal_ys») k
   point-is k h = λ i. record { xcoord = getD-take (j .«terminal_count») (j .«terminal_xs») k (pos 0) h i; ycoord = getD-take (j .«terminal_count») (j .«terminal_ys») k (pos 0) h i }
@@ -101,7 +101,7 @@ module _ (j : RoutingJob) (v : Sound j) where
   even =
       record {
         both = sym part-ys ∙ part-xs;
-        near = λ k h. let l : k < j .«terminal_count» = omega (arith, part-xs) in subst (Within reach) (sym (point-is k l)) (in-columns .terminals k l);
+        near = λ k h. let l : k < j .«terminal_count» = omega (arith, part-xs) in subst (Within reach) (sym (point-is k l)) (near-in k l);
       }
 
   pub plannable : Plannable px py (j .source)

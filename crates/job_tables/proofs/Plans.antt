@@ -11,23 +11,22 @@ use Rattle.tree.specs.Memory.{pointsOf}
 use Rattle.tree.specs.Route.{inserts}
 use Rattle.job.specs.declared.Mode.{Mode}
 use Rattle.job.specs.declared.Mode.the-variants.{Simple}
-use Rattle.joining.specs.Store.{nodeOf}
-use Rattle.joining.proofs.Reading.{length-upto}
+use Rattle.nodes.proofs.TableSizes.{size}
 use Rattle.nodes.specs.declared.Table.{Table}
-use Rattle.nodes.specs.Table.{tableColumns, tableTree, Tabled}
+use Rattle.nodes.specs.Table.{tableTree, Tabled}
 use Rattle.route.specs.Plan.{Planned}
 use Rattle.job_tables.specs.Tables.{begun}
 
 module _ {ks px py : List ℤ} {s : Point} {mode : Mode} (t : Table) (p : Planned ks px py s mode t) where
   pub plan-tabled : length px ≤ mostTerminals → Tabled t
   plan-tabled few =
-      let size = length-upto (nodeOf (tableColumns t)) (t .counts .nodes) in
+      let counted = size t in
       record {
         formed = p .formed;
         keeps = p .keeps;
         sized = p .sized;
         back = p .back;
-        few = omega (arith, size, p .counted .size, p .counted .steiners, p .next, few);
+        few = omega (arith, counted, p .counted .size, p .counted .steiners, p .next, few);
         steiners = omega (arith, p .counted .steiners, p .next, few);
         limit-small = p .limit-small;
         farthest-small = p .farthest-small;

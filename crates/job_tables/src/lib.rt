@@ -35,7 +35,7 @@ fn planned(j: RoutingJob) -> Table
     let mut ys = j.terminal_ys;
     let ks = j.keepouts;
     let t = j.terminal_count;
-    let k = 4 * j.keepout_count;
+    let k = tree::KEEPOUT_BOUNDS * j.keepout_count;
     let s = j.source;
     let mode = j.mode;
     route::plan(&mut xs[..t], &mut ys[..t], &ks[..k], s, mode)

@@ -11,8 +11,8 @@ use borrow.Author.Tests.{eqb-true}
 use Rattle.tree.specs.Limits.{longestPath, reach}
 use Rattle.tree.specs.Tree.{one, Node, Parent, none, at, nodeAt}
 use Rattle.tree.specs.Shape.{Linked, count, isAt}
-use Rattle.tree.proofs.Linking.{one-eq, count-snoc, child-in, counted, none-at, out-parent}
-use Rattle.tree.proofs.Measuring.{at-inj}
+use Rattle.tree.proofs.Counting.{one-eq, count-snoc}
+use Rattle.tree.proofs.Linking.{child-in, counted, none-at, out-parent, at-inj}
 use Rattle.tree.proofs.Searching.{own}
 use Rattle.tree.proofs.Spread.{Spread}
 use Rattle.search.specs.Columns.{Has, Distinct}

@@ -7,8 +7,8 @@ use native.Mathlib.Omega.{arith}
 use lib.ListN.{length}
 use Rattle.tree.specs.Tree.{zeroFigure, Node, at, nodeAt, without, replaceLast, withParent}
 use Rattle.tree.specs.Shape.{Linked, count}
-use Rattle.tree.proofs.Linking.{one-ne, count-snoc, count-without, count-gone, child-in, parent-in, not-own}
-use Rattle.tree.proofs.Measuring.{at-inj}
+use Rattle.tree.proofs.Counting.{one-ne, count-snoc, count-without, count-gone}
+use Rattle.tree.proofs.Linking.{child-in, parent-in, not-own, at-inj}
 use Rattle.search.specs.Columns.{Has, Distinct}
 use Rattle.joining.specs.declared.Row.{Row}
 use Rattle.joining.specs.Store.{Rows, Store, columnsOf, rowAt, setRow, setParent, SizedRows, SizedStore, Keeps, Backs, nodeFrom}

@@ -8,11 +8,10 @@ use Rattle.geometry.specs.declared.Point.{Point}
 use Rattle.geometry.specs.Geometry.{dist}
 use Rattle.tree.specs.Tree.{zeroFigure, Node, Tree, Name, at, nodeAt, terminal, steiner}
 use Rattle.tree.specs.Search.{nearestOn, split}
-use Rattle.tree.specs.Route.{newNode, attach, join}
+use Rattle.tree.specs.Route.{newNode, attach, join, grown, steinerAfter, terminalAfter}
 use Rattle.tree.specs.WellFormed.{WellFormed}
 use Rattle.tree.proofs.Nodes.{length-attach, length-split}
 use Rattle.tree.proofs.Linking.{child-in, parent-in, not-own}
-use Rattle.tree.specs.Edits.{grown, steinerAfter, terminalAfter}
 use Rattle.joining.specs.declared.Counts.{Counts}
 use Rattle.joining.specs.declared.Row.{Row}
 use Rattle.joining.specs.Store.{Store, columnsOf, rowAt, setRow, setParent, nodeFrom, SizedStore, Keeps, Backs}

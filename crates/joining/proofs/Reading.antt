@@ -9,7 +9,7 @@ use Rattle.geometry.specs.Laws.{Within}
 use Rattle.tree.specs.Limits.{longestPath, mostNodes, noNode, reach}
 use Rattle.tree.specs.Tree.{Node, Tree, nodeAt, blank}
 use Rattle.tree.specs.WellFormed.{WellFormed}
-use Rattle.tree.proofs.Order.{Tri, less, equal, more, tri}
+use Rattle.tree.proofs.Deciding.{Tri, less, equal, more, tri}
 use Rattle.tree.proofs.Forming.{terminals-few}
 use Rattle.search.specs.Columns.{chain}
 use Rattle.search.specs.Find.{examined, Kept, Walkable}

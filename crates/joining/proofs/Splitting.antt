@@ -11,8 +11,8 @@ use Rattle.tree.specs.Tree.{Node, terminal, steiner, at, nodeAt, without, repla
 use Rattle.tree.specs.Search.{split, branch}
 use Rattle.tree.specs.Route.{newNode, joined}
 use Rattle.tree.specs.Shape.{Linked, count}
-use Rattle.tree.proofs.Linking.{one-ne, count-snoc, count-without, count-gone, child-in, parent-in, not-own}
-use Rattle.tree.proofs.Measuring.{at-inj}
+use Rattle.tree.proofs.Counting.{one-ne, count-snoc, count-without, count-gone}
+use Rattle.tree.proofs.Linking.{child-in, parent-in, not-own, at-inj}
 use Rattle.tree.proofs.Nodes.{AtSplit, tip, knot, start, end, rest, at-split, length-split}
 use Rattle.search.specs.Columns.{Has, Away, Distinct}
 use Rattle.joining.specs.declared.Row.{Row}

@@ -5,8 +5,9 @@ use mathlib.Core.Bool.{cond}
 use mathlib.Core.List.{List, [], _∷_, _++_, reverse}
 use lib.ListN.{length, getD, set}
 use lib.Dec.{eqb}
-use lib.IntN.{ℤ, pos}
+use lib.IntN.{ℤ}
 use Rattle.tree.specs.Limits.{noNode}
+use Rattle.tree.specs.Memory.{pointAt}
 use Rattle.tree.specs.Tree.{zeroFigure, Node, Name, source, steiner, terminal, Parent, none, at, nodeAt}
 use Rattle.search.specs.Walk.{nodeIndex}
 use Rattle.search.specs.Columns.{chain}
@@ -47,7 +48,7 @@ columnsOf s = columns (s .rows) (s .links .last) (s .links .prev)
 abbrev pub rowAt : Rows → ℕ → Row
 rowAt r i =
     record {
-      point = record { xcoord = getD (r .xs) i (pos 0); ycoord = getD (r .ys) i (pos 0) };
+      point = pointAt (r .xs) (r .ys) i;
       path = getD (r .path) i 0;
       parent = nodeIndex (getD (r .parent) i 0);
       kind = getD (r .kind) i 0;

@@ -1,15 +1,12 @@
 // The tests of the keepouts that an edit is given, as a flat list: lower x, upper x, lower y, upper y of each.
 ghost use mathlib.Core.Path.{_≡_};
-ghost use lib.Dec.{ltb};
-ghost use lib.ListN.{length};
-ghost use Rattle.tree.specs.Limits.{mostKeepouts};
 ghost use Rattle.tree.specs.Search.{anyOf};
-ghost use Rattle.job.specs.Job.{invalidKeepout};
+ghost use Rattle.job.specs.Job.{tooManyKeepouts, invalidKeepout};
 ghost use Rattle.tree.specs.Memory.{keepoutsOf};
 
 // Test 2: more than an edit takes. What is left over of four numbers is no keepout.
 pub fn too_many(ks: &[i32]) -> bool
-    ensures { λ r. ⌜ r ≡ ltb mostKeepouts (length (keepoutsOf (now (ks .entry)))) ⌝ }
+    ensures { λ r. ⌜ r ≡ tooManyKeepouts (keepoutsOf (now (ks .entry))) ⌝ }
 {
     ks.len() >= tree::KEEPOUT_BOUNDS * tree::MOST_KEEPOUTS + tree::KEEPOUT_BOUNDS
 }

@@ -9,19 +9,15 @@ use Rattle.geometry.specs.Geometry.{dist}
 use Rattle.tree.specs.Tree.{Node, Parent, none, at, nodeAt, toParent, above, climbed}
 use Rattle.tree.specs.Measures.{greatest, worstBelow, worst}
 use Rattle.tree.specs.Shape.{Linked}
+use Rattle.tree.proofs.Climbing.{stay-sum}
 use Rattle.tree.proofs.Linking.{child-in, parent-in, counted}
-use Rattle.tree.proofs.Order.{Tri, less, equal, more, tri}
+use Rattle.tree.proofs.Deciding.{Tri, less, equal, more, tri}
 use Rattle.tree.proofs.Searching.{Children, own, head-child, tail-child}
 use Rattle.measures.proofs.Levels.{high, high-falls, worst-enough}
 use Rattle.search.specs.Columns.{Has}
 use Rattle.joining.proofs.Agree.{count-has}
 
 module _ (ns : List Node) (g : Linked ns) where
-  stay-sum : (i k : ℕ) → nodeAt ns i .parent ≡ none → climbed ns k i ≡ 0
-  unfolding climbed
-  stay-sum i zero e = refl
-  stay-sum i (suc k) e = omega (arith, ap (toParent ns (nodeAt ns i .point)) e, ap (λ (x : Parent). climbed ns k (above i x)) e, stay-sum i k e)
-
   child-sum : (k c p : ℕ) → nodeAt ns c .parent ≡ at p → climbed ns (suc k) c ≡ dist (nodeAt ns p .point) (nodeAt ns c .point) + climbed ns k p
   unfolding climbed
   child-sum k c p e = ap (λ (x : Parent). toParent ns (nodeAt ns c .point) x + climbed ns k (above c x)) e
@@ -31,12 +27,12 @@ module _ (ns : List Node) (g : Linked ns) where
   one-more zero i r = by (nodeAt ns i .parent) refl
     where
       by : (x : Parent) → nodeAt ns i .parent ≡ x → climbed ns 1 i ≡ climbed ns 0 i
-      by none e = omega (arith, stay-sum i 1 e, stay-sum i 0 e)
+      by none e = omega (arith, stay-sum ns i 1 e, stay-sum ns i 0 e)
       by (at p) e = absurd (omega (arith, g .falls i p e))
   one-more (suc k) i r = by (nodeAt ns i .parent) refl (one-more k)
     where
       by : (x : Parent) → nodeAt ns i .parent ≡ x → ((p : ℕ) → g .rank p ≤ k → climbed ns (suc k) p ≡ climbed ns k p) → climbed ns (suc (suc k)) i ≡ climbed ns (suc k) i
-      by none e ih = omega (arith, stay-sum i (suc (suc k)) e, stay-sum i (suc k) e)
+      by none e ih = omega (arith, stay-sum ns i (suc (suc k)) e, stay-sum ns i (suc k) e)
       by (at p) e ih = omega (arith, child-sum (suc k) i p e, child-sum k i p e, ih p (omega (arith, g .falls i p e)))
 
   -- the sum along a node's parents
@@ -90,12 +86,12 @@ module _ (ns : List Node) (g : Linked ns) where
   longest zero i left h r = by (nodeAt ns i .parent) refl
     where
       by : (x : Parent) → nodeAt ns i .parent ≡ x → sumOf i + worstBelow ns left i ≤ worst ns
-      by none e = omega (arith, stay-sum i (length ns) e, ap (worstBelow ns left) (g .others i h e), from-source left)
+      by none e = omega (arith, stay-sum ns i (length ns) e, ap (worstBelow ns left) (g .others i h e), from-source left)
       by (at p) e = absurd (omega (arith, g .falls i p e))
   longest (suc k) i left h r = by (nodeAt ns i .parent) refl (longest k)
     where
       by : (x : Parent) → nodeAt ns i .parent ≡ x → ((p left : ℕ) → p < length ns → g .rank p ≤ k → sumOf p + worstBelow ns left p ≤ worst ns) → sumOf i + worstBelow ns left i ≤ worst ns
-      by none e ih = omega (arith, stay-sum i (length ns) e, ap (worstBelow ns left) (g .others i h e), from-source left)
+      by none e ih = omega (arith, stay-sum ns i (length ns) e, ap (worstBelow ns left) (g .others i h e), from-source left)
       by (at p) e ih = omega (arith, sum-child i p e, by-child left p i e, ih p (suc left) (parent-in g i p e) (omega (arith, g .falls i p e)))
 
   pub none-longer : (i : ℕ) → i < length ns → sumOf i ≤ worst ns
@@ -145,4 +141,4 @@ module _ (ns : List Node) (g : Linked ns) where
   pub as-long : Leaf (worst ns)
   as-long =
       let l = leaf-below (length ns) 0 (g .some) (omega arith) in
-      record { leaf = l .leaf; in-tree = l .in-tree; no-child = l .no-child; sum-is = omega (arith, l .sum-is, stay-sum 0 (length ns) (g .top)) }
+      record { leaf = l .leaf; in-tree = l .in-tree; no-child = l .no-child; sum-is = omega (arith, l .sum-is, stay-sum ns 0 (length ns) (g .top)) }

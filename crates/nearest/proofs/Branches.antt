@@ -13,8 +13,7 @@ use Rattle.geometry.specs.Geometry.{dist}
 use Rattle.geometry.specs.Laws.{via-parent, twice-near}
 use Rattle.tree.specs.Tree.{Node, at, nodeAt}
 use Rattle.tree.specs.Search.{Branch, branch}
-use Rattle.tree.proofs.Linking.{none-at, child-in}
-use Rattle.tree.proofs.Measuring.{at-inj}
+use Rattle.tree.proofs.Linking.{none-at, child-in, at-inj}
 use Rattle.tree.proofs.Nearest as T
 use Rattle.search.specs.declared.Query.{Query}
 use Rattle.tree.specs.Memory.{pointAt}

@@ -1,3 +1,4 @@
 pub mod Packing
 pub mod Unpacking
 pub mod Naming
+pub mod TableSizes

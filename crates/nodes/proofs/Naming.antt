@@ -10,7 +10,7 @@ use lib.Dec.{eqb}
 use borrow.Author.Tests.{eq-eqb, ne-eqb}
 use Rattle.tree.specs.Tree.{Node, Name, nodeAt, blank}
 use Rattle.tree.specs.Measures.{Lookup, missing, found, kindOf, numberOf, sameName, lookup}
-use Rattle.tree.proofs.Order.{Tri, less, equal, more, tri}
+use Rattle.tree.proofs.Deciding.{Tri, less, equal, more, tri}
 use Rattle.joining.specs.Store.{Columns, nameFrom, nodeOf, nodesOf}
 use Rattle.joining.proofs.Reading.{getD-upto}
 

@@ -39,7 +39,7 @@ pub struct Table {
 
 // ---- a node from its row
 
-fn name_of(kind: u8, number: u16) -> NodeName
+pub fn name_of(kind: u8, number: u16) -> NodeName
     ensures { λ r. ⌜ nameIn r ≡ nameFrom kind number ⌝ }
 {
     if kind == tree::SOURCE {

@@ -14,8 +14,7 @@ use Rattle.tree.specs.Tree.{zeroFigure, Node, at, nodeAt, without, replaceLast,
 use Rattle.tree.specs.Shape.{Linked, count, isAt}
 use Rattle.tree.specs.Optimize.{bypass, remove}
 use Rattle.tree.proofs.Nodes.{past, AtTwo, first, second, neither, length-two}
-use Rattle.tree.proofs.Linking.{none-at, parent-in}
-use Rattle.tree.proofs.Measuring.{at-inj}
+use Rattle.tree.proofs.Linking.{none-at, parent-in, at-inj}
 use Rattle.tree.proofs.Removing.{Lone, under, in-i, in-p, in-c, i-not-p, c-not-i, c-not-p, at-bypass, gone, links-bypass, remove-is}
 use Rattle.search.specs.Columns.{Chain}
 use Rattle.joining.specs.Links.{Links, SizedLinks}

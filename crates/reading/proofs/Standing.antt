@@ -3,17 +3,16 @@ use Prim.Native.Nat.{ℕ, _<_}
 use mathlib.Core.Path.{_≡_, refl, sym, ap, subst, _∙_}
 use mathlib.Core.List.{List}
 use native.Mathlib.Omega.{arith}
-use lib.ListN.{length}
 use Rattle.tree.specs.Tree.{Name}
 use Rattle.tree.specs.Measures as D
 use Rattle.tree.specs.Measures.{lookup, pathTo}
 use Rattle.tree.specs.declared.NodeIndex.{NodeIndex}
-use Rattle.joining.specs.Store.{nodeOf, nodesOf, Sized}
-use Rattle.joining.proofs.Reading.{length-upto}
+use Rattle.joining.specs.Store.{nodesOf, Sized}
 use Rattle.measures.specs.Standing.{Stands}
 use Rattle.output.specs.declared.Answer.{Answer}
 use Rattle.output.specs.declared.Answer.the-variants.{Refused}
 use Rattle.output.specs.Answer.{Answers}
+use Rattle.nodes.proofs.TableSizes.{size, of-all}
 use Rattle.nodes.specs.declared.Lookup.{Lookup}
 use Rattle.nodes.specs.declared.Lookup.the-variants.{Missing, Found}
 use Rattle.nodes.specs.declared.Table.{Table}
@@ -27,7 +26,7 @@ stands t v =
     record {
       tree = tableTree t;
       formed = v .formed;
-      size = length-upto (nodeOf (tableColumns t)) (t .counts .nodes);
+      size = size t;
       few = v .few;
       numbers = v .steiners;
       keeps = v .keeps;
@@ -45,15 +44,12 @@ module _ (t : Table) {n : ℕ} (e : n ≡ t .counts .nodes) where
 
 -- ---- the path to the node that has a name
 module _ (t : Table) (name : Name) (l : Lookup) (el : lookupOf l ≡ lookup (tableTree t .nodes) name (t .counts .nodes)) where
-  pub named-is : lookupOf l ≡ lookup (tableTree t .nodes) name (length (tableTree t .nodes))
-  named-is = el ∙ ap (lookup (tableTree t .nodes) name) (sym (length-upto (nodeOf (tableColumns t)) (t .counts .nodes)))
-
   pub path-missing : l ≡ Missing → (out : List ℕ) → PathNamed (tableTree t .nodes) name out (Refused 7) out
-  path-missing e out = subst (λ (k : D.Lookup). PathFrom (tableTree t .nodes) k out (Refused 7) out) (ap lookupOf (sym e) ∙ named-is) (refl, refl)
+  path-missing e out = subst (λ (k : D.Lookup). PathFrom (tableTree t .nodes) k out (Refused 7) out) (ap lookupOf (sym e) ∙ of-all t name el) (refl, refl)
 
   module _ (i : NodeIndex) (e : l ≡ Found i) where
     pub path-low : i .0 < t .counts .nodes
     path-low = found-low (tableTree t .nodes) name (t .counts .nodes) (i .0) (sym el ∙ ap lookupOf e)
 
     pub path-found : {out out′ : List ℕ} {r : Answer} → Answers (pathTo (tableTree t .nodes) (i .0)) out r out′ → PathNamed (tableTree t .nodes) name out r out′
-    path-found {out} {out′} {r} a = subst (λ (k : D.Lookup). PathFrom (tableTree t .nodes) k out r out′) (ap lookupOf (sym e) ∙ named-is) a
+    path-found {out} {out′} {r} a = subst (λ (k : D.Lookup). PathFrom (tableTree t .nodes) k out r out′) (ap lookupOf (sym e) ∙ of-all t name el) a

@@ -2,9 +2,8 @@
 use Prim.Native.Nat.{ℕ}
 use mathlib.Core.Path.{_≡_}
 use mathlib.Core.List.{List}
-use lib.ListN.{length}
 use Rattle.tree.specs.Tree.{Node, Name}
-use Rattle.tree.specs.Measures.{Lookup, missing, found, lookup, pathTo}
+use Rattle.tree.specs.Measures.{Lookup, missing, found, lookupIn, pathTo}
 use Rattle.output.specs.declared.Answer.{Answer}
 use Rattle.output.specs.declared.Answer.the-variants.{Refused}
 use Rattle.output.specs.Answer.{Answers}
@@ -16,4 +15,4 @@ PathFrom ns (found i) out r out′ = Answers (pathTo ns i) out r out′
 
 -- "Path listing and name lookup can give 7, before 11."
 abbrev pub PathNamed : List Node → Name → List ℕ → Answer → List ℕ → Type 0
-PathNamed ns n = PathFrom ns (lookup ns n (length ns))
+PathNamed ns n = PathFrom ns (lookupIn ns n)

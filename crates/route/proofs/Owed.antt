@@ -6,10 +6,10 @@ use lib.IntN.{ℤ}
 use Rattle.allowance.specs.Allowance.{allowedOf}
 use Rattle.tree.specs.Tree.{Tree}
 use Rattle.tree.specs.Route as T
-use Rattle.tree.specs.Shape.{Bounded}
+use Rattle.tree.proofs.Bounds.{Bounded}
 use Rattle.tree.proofs.Alike.{route-alike}
 use Rattle.tree.proofs.Order.{times-sort}
-use Rattle.tree.proofs.Measuring.{reaches, path-is-sum}
+use Rattle.tree.proofs.Climbing.{reaches, path-is-sum}
 use Rattle.tree.proofs.Routing as R
 use Rattle.tree.proofs.Routing.{same-limits, route-terminals, route-bounded, route-total}
 use Rattle.job.specs.declared.Mode.{Mode}
@@ -18,7 +18,7 @@ use Rattle.job.specs.Job as J
 use Rattle.job.specs.Job.{Job, readJob}
 use Rattle.job.specs.Alike.{SameJobs, SameReading}
 use Rattle.job.proofs.Alike.{read-alike}
-use Rattle.route.specs.Routing.{Routing, refused, routed, wayOf, treeFor, routingOf, routeOf}
+use Rattle.route.specs.Routing.{refused, routed, wayOf, treeFor, routingOf, routeOf}
 use Rattle.route.specs.Demand3.{farthestOf, allowanceOf, Constrained, Demand3}
 
 -- ---- order

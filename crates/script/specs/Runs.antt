@@ -18,10 +18,10 @@ abbrev pub mostAnswer : ℕ
 mostAnswer = 65552
 
 -- the first n of a list are there
-abbrev pub Counts : ℕ → List ℕ → Type 0
-Counts n l = (n ≤ length l) × (n ≡ length (take n l))
+abbrev pub CountsFirst : ℕ → List ℕ → Type 0
+CountsFirst n l = (n ≤ length l) × (n ≡ length (take n l))
 
 -- the tree is one that the calls give, and the answer lies at the buffer's start
 pub record Runs (out : List ℕ) (r : Progress) : Type 0 where
   pub stored : Stored (r .tree)
-  pub fits : Counts (r .written) out
+  pub fits : CountsFirst (r .written) out

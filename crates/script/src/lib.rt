@@ -14,15 +14,13 @@ use output::Answer;
 use reading::LineFigures;
 use rectangles::Rectangles;
 use tree::NodeName;
-use tree::SteinerNumber;
-use tree::TerminalNumber;
 ghost use mathlib.Core.Path.{_≡_};
 ghost use Prim.Native.Nat.{_+_, _<_, _≤_};
 ghost use lib.ListN.{length};
 ghost use Rattle.rectangles.specs.Rectangles.{room};
 ghost use Rattle.global_router.specs.Stored.{Stored};
 ghost use Rattle.planning.specs.Output.{mostText};
-ghost use Rattle.script.specs.Runs.{mostBytes, mostListed, mostAnswer, Counts, Runs};
+ghost use Rattle.script.specs.Runs.{mostBytes, mostListed, mostAnswer, CountsFirst, Runs};
 
 const HEADER_SIZE: usize = 16;
 
@@ -80,13 +78,13 @@ fn least(a: usize, b: usize) -> usize
 // As many of n bytes, or of n indices, as there are.
 pub fn within(n: usize, s: &[u8]) -> usize
     ensures few { λ r. ⌜ r ≤ n ⌝ }
-    ensures counts { λ r. ⌜ Counts r (now (s .entry)) ⌝ }
+    ensures counts { λ r. ⌜ CountsFirst r (now (s .entry)) ⌝ }
 {
     least(n, s.len())
 }
 
 fn within_list(n: usize, s: &[u16]) -> usize
-    ensures { λ r. ⌜ Counts r (now (s .entry)) ⌝ }
+    ensures { λ r. ⌜ CountsFirst r (now (s .entry)) ⌝ }
 {
     least(n, s.len())
 }
@@ -98,22 +96,12 @@ fn point_in(record: &[u8]) -> Point {
     }
 }
 
-fn name_of(kind: u8, number: u16) -> NodeName {
-    if kind == tree::SOURCE {
-        return NodeName::Source;
-    }
-    if kind == tree::STEINER {
-        return NodeName::Steiner(SteinerNumber(number));
-    }
-    NodeName::Terminal(TerminalNumber(number))
-}
-
 fn name_a(record: &[u8]) -> NodeName {
-    name_of(wire::byte_at(record, 4), wire::u16_at(record, 6))
+    nodes::name_of(wire::byte_at(record, 4), wire::u16_at(record, 6))
 }
 
 fn name_b(record: &[u8]) -> NodeName {
-    name_of(wire::byte_at(record, 5), wire::u16_at(record, 8))
+    nodes::name_of(wire::byte_at(record, 5), wire::u16_at(record, 8))
 }
 
 fn parent_in(record: &[u8]) -> ParentName {

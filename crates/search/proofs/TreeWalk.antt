@@ -96,8 +96,7 @@ module _ (ns : List Node) (xs ys : List ℤ) (path last prev : List ℕ) (k : Ke
   pub boxes-on : (lows highs : List ℤ) → Covers ns lows highs → BoxColumns (length ns) xs ys last prev lows highs
   boxes-on lows highs v =
       record {
-        in-lows = v .in-lows;
-        in-highs = v .in-highs;
+        room = v .room;
         own = λ i h. subst (λ (p : Point). contains (boxAt lows highs i) p ≡ true) (sym (k .points i h)) (v .own i h);
         below = λ p c h z. v .below p c h (has-reverse c (nodeAt ns p .children) (subst (Has c) (chains-are p h) z));
       }

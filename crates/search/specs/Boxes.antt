@@ -29,7 +29,6 @@ holds b a = covers (b .xcoord) (a .xcoord) && covers (b .ycoord) (a .ycoord)
 
 -- each node's box has its point and the boxes of its children
 pub record Covers (ns : List Node) (lows highs : List ℤ) : Type 0 where
-  pub in-lows : 2 * length ns ≤ length lows
-  pub in-highs : 2 * length ns ≤ length highs
+  pub room : BoxRoom (length ns) lows highs
   pub own : (i : ℕ) → i < length ns → contains (boxAt lows highs i) (nodeAt ns i .point) ≡ true
   pub below : (p c : ℕ) → p < length ns → Has c (nodeAt ns p .children) → holds (boxAt lows highs p) (boxAt lows highs c) ≡ true

@@ -1,6 +1,6 @@
 -- The walk as the code does it: a branch is judged before its keepouts are tested, and a child is pushed only where something in its subtree could be taken.
 -- proofs/Thinning.antt has that this finds what the plain walk (specs/Walk.antt) finds.
-use Prim.Native.Nat.{ℕ, _+_, _*_, _≤_, _<_}
+use Prim.Native.Nat.{ℕ, _+_, _≤_, _<_}
 use mathlib.Core.Path.{_≡_}
 use mathlib.Core.Bool.{Bool, true, false, not, _&&_, _||_, cond}
 use mathlib.Core.List.{List, [], _∷_}
@@ -83,7 +83,6 @@ pub record NearChildren (a : Query) (P : NodeView) (xs ys : List ℤ) (path last
 
 -- each node's box has its point and the boxes of its children
 pub record BoxColumns (n : ℕ) (xs ys : List ℤ) (last prev : List ℕ) (lows highs : List ℤ) : Type 0 where
-  pub in-lows : 2 * n ≤ length lows
-  pub in-highs : 2 * n ≤ length highs
+  pub room : BoxRoom n lows highs
   pub own : (i : ℕ) → i < n → contains (boxAt lows highs i) (pointAt xs ys i) ≡ true
   pub below : (p c : ℕ) → p < n → Has c (childrenOf last prev p) → holds (boxAt lows highs p) (boxAt lows highs c) ≡ true

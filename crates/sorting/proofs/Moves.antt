@@ -1,4 +1,4 @@
--- One store of a point in two columns.
+-- One store of a point in two columns: the point stands there, all others stay, and so do the lengths.
 use Prim.Native.Nat.{ℕ, _<_}
 use mathlib.Core.Path.{_≡_, ap, _∙_}
 use mathlib.Core.Logic.{_≢_}

@@ -13,7 +13,7 @@ use borrow.Author.Tests.{ltb-true, ltb-false, le-ltb, eqb-true, eq-eqb, not-true
 use Rattle.tree.specs.Tree.{one}
 use Rattle.tree.specs.Shape.{count}
 use Rattle.tree.proofs.Folding.{Total, Places, places-comm, Counts, fold-same}
-use Rattle.tree.proofs.Linking.{count-snoc}
+use Rattle.tree.proofs.Counting.{count-snoc}
 use Rattle.sorting.specs.Keys.{placeKey, sortKeys, free, AllFree, SameKeys}
 
 -- ---- sorting depends on counts alone

@@ -1,4 +1,4 @@
--- The tests of the order, one after the other.
+-- The tests of the order, one after the other: each early answer of the definition's three keys is what the keys' comparison gives.
 use Prim.Native.Nat.{_<_}
 use mathlib.Core.Path.{_≡_, refl, sym, _∙_}
 use mathlib.Core.Bool.{true, false, _&&_, _||_}

@@ -8,8 +8,8 @@ use Rattle.geometry.specs.declared.Point.{Point}
 use Rattle.geometry.specs.Geometry.{dist}
 use Rattle.tree.specs.Tree.{Tree, Name, source, steiner, terminal, at, nodeAt}
 use Rattle.tree.specs.Search.{Join, onto, split}
-use Rattle.tree.specs.Route.{newNode, joined, join, nextAfter}
-use Rattle.tree.specs.Edits.{Next, steinerAfter, attached, spliced}
+use Rattle.tree.specs.Route.{newNode, joined, join, nextAfter, steinerAfter, attached}
+use Rattle.tree.specs.Edits.{Next, spliced}
 use Rattle.tree.specs.WellFormed.{WellFormed, Fits, newNodes}
 use Rattle.tree.proofs.Nodes.{length-attach, length-split}
 use Rattle.tree.proofs.Linking.{child-in, parent-in, not-own}

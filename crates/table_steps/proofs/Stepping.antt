@@ -8,30 +8,25 @@ use Rattle.geometry.specs.Laws.{Within}
 use Rattle.tree.specs.Limits.{mostNodes, reach}
 use Rattle.tree.specs.Tree.{Tree}
 use Rattle.tree.specs.WellFormed.{WellFormed}
-use Rattle.joining.specs.Store.{nodeOf, nodesOf, SizedStore, Keeps}
+use Rattle.joining.specs.Store.{nodesOf, SizedStore, Keeps}
 use Rattle.joining.specs.Standing.{Stores, Standing, Grows, Anything}
 use Rattle.optimizing.specs.Removal.{StandsIn}
-use Rattle.joining.proofs.Reading.{length-upto, nodes-are, backs-of, backed-of, sized-columns}
+use Rattle.joining.proofs.Reading.{nodes-are, backs-of, backed-of, sized-columns}
 use Rattle.nodes.specs.declared.Table.{Table}
 use Rattle.nodes.specs.Table.{tableColumns, tableStore, tableTree, Tabled}
+use Rattle.nodes.proofs.TableSizes.{size, few}
 use Rattle.table_steps.specs.Steps.{Stepped}
 
 module _ {t : Table} (v : Tabled t) where
-  pub size : length (tableTree t .nodes) ≡ t .counts .nodes
-  size = length-upto (nodeOf (tableColumns t)) (t .counts .nodes)
-
-  few : length (tableTree t .nodes) ≤ mostNodes
-  few = omega (arith, size, v .few)
-
   -- ---- before
   stores : Stores (tableTree t) (t .counts) (tableStore t)
   stores =
       record {
-        size = size;
+        size = size t;
         steiner = refl;
         terminal = refl;
         keeps = v .keeps;
-        backs = backs-of (tableTree t) (v .formed) few mostNodes (tableColumns t) (v .sized) (v .keeps) few (t .next) (λ p h. v .back .agree p (omega (arith, size)));
+        backs = backs-of (tableTree t) (v .formed) (few v) mostNodes (tableColumns t) (v .sized) (v .keeps) (few v) (t .next) (λ p h. v .back .agree p (omega (arith, size t)));
       }
 
   sized : SizedStore mostNodes (tableStore t)

@@ -9,8 +9,8 @@ use native.Mathlib.Omega.{arith}
 use lib.ListN.{length, length-append}
 use Rattle.geometry.specs.declared.Point.{Point}
 use Rattle.tree.specs.Tree.{Node, Name, source, steiner, terminal, nodeAt, change, adopt, terminalOf, terminals}
-use Rattle.tree.specs.Route.{attach}
-use Rattle.tree.specs.Edits.{Next, steinerAfter, terminalAfter}
+use Rattle.tree.specs.Route.{attach, steinerAfter, terminalAfter}
+use Rattle.tree.specs.Edits.{Next}
 use Rattle.tree.specs.Shape.{Named, nameOf}
 use Rattle.tree.proofs.Nodes.{length-attach}
 use Rattle.tree.proofs.Measuring.{Core, core, core-new, core-old}

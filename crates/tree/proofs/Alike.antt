@@ -1,15 +1,17 @@
--- Jobs alike but for order get the same tree.
+-- Jobs alike but for order get the same tree: sorting forgets the order of terminals (Order.antt), and keepouts are read only through `blocked`, which asks whether any stops.
 use mathlib.Core.Path.{_≡_, refl, sym, ap, _∙_}
 use mathlib.Core.Logic.{_⊎_, ⊎-elim}
 use mathlib.Core.Bool.{Bool, true}
 use mathlib.Core.List.{List, [], _∷_, List·Memᴰ, List·Memᴰ·head, List·Memᴰ·tail}
 use lib.IntN.{pos}
+use Rattle.geometry.specs.Signed.{no-way}
 use Rattle.tree.specs.Limits.{noLimit}
 use Rattle.geometry.specs.declared.Point.{Point}
 use Rattle.geometry.specs.declared.Rectangle.{Rectangle}
 use Rattle.tree.specs.Search.{anyOf, stops, blocked, find}
 use Rattle.tree.specs.Route.{SameTerminals, SameKeepouts, join, insert, insertSimple, inserts, rooted, route, Mode, simple, steiners, constraints}
-use Rattle.tree.proofs.Order.{or-split, or-left, or-right, both-ways, clash, sort-same, farthest-same}
+use Rattle.tree.proofs.Deciding.{or-split, or-left, or-right, both-ways}
+use Rattle.tree.proofs.Order.{sort-same, farthest-same}
 
 module _ {A : Type 0} (f : A → Bool) where
   any-in : {k : A} {ks : List A} → List·Memᴰ k ks → f k ≡ true → anyOf f ks ≡ true
@@ -19,7 +21,7 @@ module _ {A : Type 0} (f : A → Bool) where
 
   any-out : (ks : List A) → anyOf f ks ≡ true → (k : A) × List·Memᴰ k ks × (f k ≡ true)
   unfolding anyOf
-  any-out [] e = clash e
+  any-out [] e = no-way e
   any-out (k ∷ ks) e =
       ⊎-elim (λ h. (k, List·Memᴰ·head refl, h)) (λ h. let r = any-out ks h in (r .0, List·Memᴰ·tail (r .1), r .2)) (or-split (f k) (anyOf f ks) e)
 

@@ -13,7 +13,7 @@ use borrow.Author.Tests.{lt-ltb, le-ltb}
 use Rattle.tree.specs.Tree.{one, Node, Name, steiner, Parent, none, at, nodeAt, blank, terminalOf, terminals}
 use Rattle.tree.specs.Shape.{count, isAt}
 use Rattle.tree.specs.Optimize.{below, closed, closedParent, closedNode, dropAt, closeUp}
-use Rattle.tree.proofs.Linking.{one-eq, one-ne}
+use Rattle.tree.proofs.Counting.{one-eq, one-ne}
 
 -- ---- indices
 -- what j was before node i went

@@ -13,8 +13,8 @@ use Rattle.geometry.specs.Laws.{Within, dist-small, nearest-within, via-parent}
 use Rattle.tree.specs.Limits.{across, reach}
 use Rattle.tree.specs.Tree.{Node, Tree, Name, source, steiner, terminal, at, nodeAt, terminals}
 use Rattle.tree.specs.Search.{Join, onto, split, blocked}
-use Rattle.tree.specs.Route.{newNode, attach, joined, join, insert, closest, insertSimple, rooted}
-use Rattle.tree.specs.Edits.{Next, terminalAfter, grown, attached}
+use Rattle.tree.specs.Route.{newNode, attach, joined, join, insert, closest, insertSimple, rooted, terminalAfter, grown, attached}
+use Rattle.tree.specs.Edits.{Next}
 use Rattle.tree.specs.Shape.{Linked}
 use Rattle.tree.specs.WellFormed.{WellFormed, Counted, Fits}
 use Rattle.tree.proofs.Nodes.{length-attach, length-split}

@@ -15,8 +15,8 @@ use Rattle.tree.specs.Tree.{one}
 use Rattle.tree.specs.Tree.{Node, Parent, none, at, nodeAt, sumTo}
 use Rattle.tree.specs.Search.{Best, Walk, judge, examine, branches, walk, fresh}
 use Rattle.tree.specs.Shape.{Linked, count, isAt}
-use Rattle.tree.proofs.Linking.{one-eq, one-ne, child-in, counted, parent-in, not-own, none-at, count-append}
-use Rattle.tree.proofs.Measuring.{at-inj}
+use Rattle.tree.proofs.Counting.{one-eq, one-ne, count-append}
+use Rattle.tree.proofs.Linking.{child-in, counted, parent-in, not-own, none-at, at-inj}
 
 one-most : (t : Bool) → one t ≤ 1
 one-most true = omega arith

@@ -1,9 +1,14 @@
 pub mod Folding
+pub mod Deciding
 pub mod Order
 pub mod Alike
 pub mod Nodes
 pub mod Ranking
+pub mod Counting
 pub mod Linking
+pub mod Bounds
+pub mod Totals
+pub mod Climbing
 pub mod Measuring
 pub mod Naming
 pub mod Adding

@@ -12,13 +12,14 @@ use lib.Dec.{eqb, ltb}
 use lib.IntN.{ℤ, pos}
 use lib.Signed.{leZ}
 use borrow.Author.Tests.{ltb-true, lt-ltb, not-true}
+use Rattle.geometry.specs.Signed.{no-way}
 use Rattle.geometry.specs.declared.Point.{Point}
 use Rattle.tree.specs.Tree.{one, Node, at, nodeAt}
-use Rattle.tree.specs.Search.{Join, Best, Walk, Branch, branch, takes, joinAt, judge, branches, walk, fresh, find}
+use Rattle.tree.specs.Search.{Join, Best, Walk, Branch, branch, takes, joinAt, judge, branches, fresh, find}
 use Rattle.tree.specs.Shape.{Linked, count, isAt}
-use Rattle.tree.proofs.Order.{clash, clash′, and-split}
-use Rattle.tree.proofs.Linking.{one-ne, parent-in}
-use Rattle.tree.proofs.Measuring.{at-inj}
+use Rattle.tree.proofs.Deciding.{never, and-split}
+use Rattle.tree.proofs.Counting.{one-ne}
+use Rattle.tree.proofs.Linking.{parent-in, at-inj}
 use Rattle.tree.proofs.Searching.{Children, not-or, own, head-child, tail-child}
 use Rattle.tree.proofs.Fuel.{Pops, Ended, Whole, walk-keeps, whole-start, whole-after, all-popped, examined}
 
@@ -61,8 +62,8 @@ module _ (ns : List Node) (g : Linked ns) (limit : ℕ) (allowed : ℤ) (q : Poi
       by false e = refl
 
   open-own : (f : Best) → Open f → (l t : Bool) → leZ (pos (B p c .L)) allowed ≡ l → takes limit l (B p c) f ≡ t → Done (after p c l t f)
-  open-own f o false t d k = clash (sym d ∙ w .within)
-  open-own f o true false d k = clash′ (sym (takes-own f o) ∙ k)
+  open-own f o false t d k = no-way (sym d ∙ w .within)
+  open-own f o true false d k = never (sym (takes-own f o) ∙ k)
   open-own f o true true d k = record { join = refl; best = refl; within = refl }
 
   module _ (a b : ℕ) (link : nodeAt ns b .parent ≡ at a) where
@@ -80,7 +81,7 @@ module _ (ns : List Node) (g : Linked ns) (limit : ℕ) (allowed : ℤ) (q : Poi
     open-other : (f : Best) → b ≢ c → Open f → (l t : Bool) → leZ (pos (B a b .L)) allowed ≡ l → takes limit l (B a b) f ≡ t → Open (after a b l t f)
     open-other f n o l false d k = o
     open-other f n o true true d k = λ h. w .nearer a b link n d
-    open-other f n o false true d k = λ h. clash (sym (none-within f k) ∙ h)
+    open-other f n o false true d k = λ h. no-way (sym (none-within f k) ∙ h)
 
     no-nearer : leZ (pos (B a b .L)) allowed ≡ true → B p c .D ≤ B a b .D
     no-nearer d = by (ℕ-discrete b c)
@@ -93,7 +94,7 @@ module _ (ns : List Node) (g : Linked ns) (limit : ℕ) (allowed : ℤ) (q : Poi
     unfolding takes
     done-stays f o l false d k = o
     done-stays f o true true d k = absurd (omega (arith, o .best, no-nearer d, ltb-true (B a b .D) (f .best) (not-or (f .within) _ (o .within) k)))
-    done-stays f o false true d k = clash′ (sym (o .within) ∙ none-within f k)
+    done-stays f o false true d k = never (sym (o .within) ∙ none-within f k)
 
   -- ---- the walk
   -- what is known after the branch has been examined `seen` times
@@ -139,7 +140,7 @@ module _ (ns : List Node) (g : Linked ns) (limit : ℕ) (allowed : ℤ) (q : Poi
 
     start : Kept [] (0 ∷ []) (fresh limit)
     unfolding count
-    start = record { whole = whole-start ns g; told = before refl (λ e. clash e) }
+    start = record { whole = whole-start ns g; told = before refl (λ e. no-way e) }
 
     found : find shut ns limit allowed q ≡ J p c
     unfolding find

@@ -1,4 +1,4 @@
--- The nodes after a joining, by index.
+-- The nodes after a joining, by index: the new ones, the one or two whose links change, and all others as they were. Each change of a list is taken apart once here.
 use mathlib.Core.Path.{_≡_, sym, ap, _∙_}
 use mathlib.Core.Logic.{_≢_}
 use mathlib.Core.List.{List, [], _∷_, _++_}
@@ -12,7 +12,7 @@ use Rattle.geometry.specs.Geometry.{dist}
 use Rattle.tree.specs.Tree.{Node, terminal, steiner, nodeAt, change, blank, adopt, replaceLast, withParent}
 use Rattle.tree.specs.Search.{split, branch}
 use Rattle.tree.specs.Route.{newNode, attach, joined}
-use Rattle.tree.proofs.Order.{Tri, less, equal, more, tri}
+use Rattle.tree.proofs.Deciding.{Tri, less, equal, more, tri}
 
 pub past : (ns : List Node) (j : ℕ) → length ns ≤ j → nodeAt ns j ≡ blank
 unfolding nodeAt

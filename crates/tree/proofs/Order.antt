@@ -1,51 +1,22 @@
 -- The order of terminals: `ordered s` is a total order of points, so `place` commutes; and a fold whose steps commute depends on how often each point stands there (Folding.antt).
-use mathlib.Core.Path.{_≡_, refl, sym, ap, subst, _∙_}
+use mathlib.Core.Path.{_≡_, refl, sym, ap, _∙_}
 use mathlib.Core.Logic.{_⊎_, inl, inr, ⊎-elim}
-use mathlib.Core.Bool.{Bool, true, false, _&&_, _||_, cond}
+use mathlib.Core.Bool.{Bool, true, false, cond}
 use mathlib.Core.List.{List, [], _∷_, foldr}
 use Prim.Native.Nat.{ℕ, suc, _+_, _≤_, _<_, max}
-use native.Mathlib.Decide.{decLt}
 use native.Mathlib.Omega.{arith}
-use lib.Dec.{T, ltb}
-use lib.IntN.{ℤ, pos, negsuc}
+use lib.Dec.{ltb}
+use lib.IntN.{ℤ}
 use lib.Signed.{leZ, ltZ, mag}
-use borrow.Author.Tests.{ltb-true, eqb-true, lt-ltb, eq-eqb, le-leb}
+use borrow.Author.Tests.{ltb-true, eqb-true, lt-ltb, eq-eqb}
 use Rattle.geometry.specs.declared.Point.{Point}
 use Rattle.geometry.specs.Geometry.{dist, same, eqZ}
 use Rattle.tree.specs.Tree.{one}
 use Rattle.tree.specs.Route.{ordered, place, times, SameTerminals, sort, farthest, directs}
+use Rattle.tree.proofs.Deciding.{Tri, less, equal, more, tri, never, or-split, and-split, and-join, or-left, or-right}
 use Rattle.tree.proofs.Folding.{Total, Places, places-comm, Counts, fold-same}
-use Rattle.geometry.specs.Signed.{bias, In, lt-yes, lt-no, le-yes, le-no, bias-inj}
-
--- ---- Boolean tests
-pub clash : {X : Type 0} → false ≡ true → X
-clash e = absurd (subst T (sym e) tt)
-
-pub clash′ : {X : Type 0} → true ≡ false → X
-clash′ e = absurd (subst T e tt)
-
-pub or-split : (a b : Bool) → a || b ≡ true → (a ≡ true) ⊎ (b ≡ true)
-or-split true b e = inl refl
-or-split false b e = inr e
-
-pub and-split : (a b : Bool) → a && b ≡ true → (a ≡ true) × (b ≡ true)
-and-split true b e = (refl, e)
-and-split false b e = clash e
-
-pub and-join : (a b : Bool) → a ≡ true → b ≡ true → a && b ≡ true
-and-join a b e f = subst (λ (x : Bool). x && b ≡ true) (sym e) f
-
-pub or-left : (a b : Bool) → a ≡ true → a || b ≡ true
-or-left a b e = subst (λ (x : Bool). x || b ≡ true) (sym e) refl
-
-pub or-right : (a b : Bool) → b ≡ true → a || b ≡ true
-or-right true b e = refl
-or-right false b e = e
-
-pub both-ways : (a b : Bool) → (a ≡ true → b ≡ true) → (b ≡ true → a ≡ true) → a ≡ b
-both-ways true b f g = sym (f refl)
-both-ways false true f g = g refl
-both-ways false false f g = refl
+use Rattle.geometry.specs.Intervals.{le-back}
+use Rattle.geometry.specs.Signed.{le-refl, eqZ-eq, bias, In, lt-yes, lt-no, le-yes, bias-inj}
 
 -- ---- three numbers, the first that differs decides
 pub data Lex (a b c d e f : ℕ) : Type 0 where
@@ -80,19 +51,6 @@ lex-anti (third p q r) (first s) = absurd (omega arith)
 lex-anti (third p q r) (second s t) = absurd (omega arith)
 lex-anti (third p q r) (third s t u) = record { one = p; two = q; three = omega arith }
 
-pub data Tri (a b : ℕ) : Type 0 where
-  less : a < b → Tri a b
-  equal : a ≡ b → Tri a b
-  more : b < a → Tri a b
-
-pub tri : (a b : ℕ) → Tri a b
-tri a b = by (decLt a b) (decLt b a)
-  where
-    by : Dec (a < b) → Dec (b < a) → Tri a b
-    by (yes h) d = less h
-    by (no h) (yes k) = more k
-    by (no h) (no k) = equal (omega arith)
-
 lex-total : (a b c d e f : ℕ) → Lex a b c d e f ⊎ Lex d e f a b c
 lex-total a b c d e f = by (tri a d) (tri b e) (tri c f)
   where
@@ -115,13 +73,6 @@ module _ (s : Point) (K : ℕ) where
 
   eqZ-bias : (a b : ℤ) → In K a → In K b → eqZ a b ≡ true → bias K a ≡ bias K b
   eqZ-bias a b f g e = let h = and-split (leZ a b) (leZ b a) e in omega (arith, le-yes a b f g (h .0), le-yes b a g f (h .1))
-
-  le-test : (a b : ℤ) → In K a → In K b → bias K a ≤ bias K b → leZ a b ≡ true
-  le-test a b f g h = by (leZ a b) refl
-    where
-      by : (t : Bool) → leZ a b ≡ t → t ≡ true
-      by true e = refl
-      by false e = absurd (omega (arith, le-no a b f g e))
 
   lt-test : (a b : ℤ) → In K a → In K b → bias K a < bias K b → ltZ a b ≡ true
   lt-test a b f g h = by (ltZ a b) refl
@@ -147,7 +98,7 @@ module _ (s : Point) (K : ℕ) where
       or-right (ltb (dist s p) (dist s q)) _ (and-join _ _ (eq-eqb _ _ h) (or-left _ _ (lt-test _ _ (f .0) (g .0) i)))
   lex-ordered p q f g (third h i j) =
       or-right (ltb (dist s p) (dist s q)) _ (and-join _ _ (eq-eqb _ _ h) (or-right (ltZ (p .xcoord) (q .xcoord)) _
-      (and-join _ _ (and-join _ _ (le-test _ _ (f .0) (g .0) (omega arith)) (le-test _ _ (g .0) (f .0) (omega arith))) (le-test _ _ (f .1) (g .1) j))))
+      (and-join _ _ (and-join _ _ (le-back _ _ (f .0) (g .0) (omega arith)) (le-back _ _ (g .0) (f .0) (omega arith))) (le-back _ _ (f .1) (g .1) j))))
 
 -- ---- with a bias above the numbers of three points
 module _ (s p q r : Point) where
@@ -169,7 +120,7 @@ module _ (s p q r : Point) where
 module _ (s p q : Point) where
   pub ordered-total : ordered s p q ≡ false → ordered s q p ≡ true
   ordered-total e =
-      ⊎-elim (λ h. clash′ (sym (lex-ordered s (K s p q q) p q (in-p s p q q) (in-q s p q q) h) ∙ e)) (λ h. lex-ordered s (K s p q q) q p (in-q s p q q) (in-p s p q q) h)
+      ⊎-elim (λ h. never (sym (lex-ordered s (K s p q q) p q (in-p s p q q) (in-q s p q q) h) ∙ e)) (λ h. lex-ordered s (K s p q q) q p (in-q s p q q) (in-p s p q q) h)
       (lex-total (dist s p) (bias (K s p q q) (p .xcoord)) (bias (K s p q q) (p .ycoord)) (dist s q) (bias (K s p q q) (q .xcoord)) (bias (K s p q q) (q .ycoord)))
 
   pub ordered-anti : ordered s p q ≡ true → ordered s q p ≡ true → p ≡ q
@@ -198,32 +149,16 @@ module _ (s : Point) where
   place-comm = places-comm in-order placing
 
 -- ---- the test that two points are the same
-eqZ-eq : (a b : ℤ) → eqZ a b ≡ true → a ≡ b
-eqZ-eq a b e = bias-inj a b fa fb (eqZ-bias zero-point (suc (mag a + mag b)) a b fa fb e)
-  where
-    zero-point : Point
-    zero-point = record { xcoord = a; ycoord = b }
-
-    fa : In (suc (mag a + mag b)) a
-    fa = record { below = omega arith }
-
-    fb : In (suc (mag a + mag b)) b
-    fb = record { below = omega arith }
-
 pub same-eq : (p q : Point) → same p q ≡ true → p ≡ q
 unfolding same
 same-eq p q e =
     let h = and-split (eqZ (p .xcoord) (q .xcoord)) (eqZ (p .ycoord) (q .ycoord)) e in
     λ i. record { xcoord = eqZ-eq (p .xcoord) (q .xcoord) (h .0) i; ycoord = eqZ-eq (p .ycoord) (q .ycoord) (h .1) i }
 
-leZ-refl : (a : ℤ) → leZ a a ≡ true
-leZ-refl (pos n) = le-leb n n (omega arith)
-leZ-refl (negsuc n) = le-leb n n (omega arith)
-
 pub same-refl : (p : Point) → same p p ≡ true
 unfolding same
 same-refl p =
-    and-join _ _ (and-join _ _ (leZ-refl (p .xcoord)) (leZ-refl (p .xcoord))) (and-join _ _ (leZ-refl (p .ycoord)) (leZ-refl (p .ycoord)))
+    and-join _ _ (and-join _ _ (le-refl (p .xcoord)) (le-refl (p .xcoord))) (and-join _ _ (le-refl (p .ycoord)) (le-refl (p .ycoord)))
 
 -- ---- a fold whose steps commute
 counting : Counts same times

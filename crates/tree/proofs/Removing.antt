@@ -2,7 +2,7 @@
 -- The idea: among the other nodes links agree as soon as they go past it (`bypass`), and none leads to it, so closing up only renames them. The rank is the old one.
 use mathlib.Core.Path.{_≡_, refl, sym, ap, subst, _∙_}
 use mathlib.Core.Logic.{_≢_}
-use mathlib.Core.Bool.{Bool, true, false, _&&_}
+use mathlib.Core.Bool.{Bool, true, _&&_}
 use mathlib.Core.List.{List, [], _∷_, _++_, map}
 use Prim.Native.Nat.{ℕ, zero, suc, _+_, _<_}
 use native.Mathlib.Decide.{decLt}
@@ -10,16 +10,17 @@ use native.Mathlib.Omega.{arith}
 use lib.ListN.{length, length-append, length-map}
 use lib.Dec.{eqb}
 use borrow.Author.Tests.{eqb-true}
+use Rattle.geometry.specs.Signed.{and-right, no-way}
 use Rattle.geometry.specs.Laws.{Within}
 use Rattle.tree.specs.Limits.{reach}
 use Rattle.tree.specs.Tree.{one, Node, Tree, Name, source, steiner, terminal, Parent, none, at, nodeAt, change, without, replaceLast, withParent, terminals}
 use Rattle.tree.specs.Shape.{count, isAt, Linked, Named, Given, nameOf}
 use Rattle.tree.specs.WellFormed.{WellFormed}
 use Rattle.tree.specs.Optimize.{isSteiner, lone, closed, closedParent, closedNode, firstOf, bypass, closeUp, removeBelow, remove, withNodes}
-use Rattle.tree.proofs.Order.{clash}
 use Rattle.tree.proofs.Nodes.{past, AtTwo, first, second, neither, at-two, length-two}
-use Rattle.tree.proofs.Linking.{linked-by, one-eq, one-ne, count-snoc, count-without, count-gone, length-without, none-at, counted, child-in, parent-in, not-own}
-use Rattle.tree.proofs.Measuring.{Core, core, at-inj}
+use Rattle.tree.proofs.Counting.{one-eq, one-ne, count-snoc, count-without, count-gone, length-without}
+use Rattle.tree.proofs.Linking.{linked-by, none-at, counted, child-in, parent-in, not-own, at-inj}
+use Rattle.tree.proofs.Measuring.{Core, core}
 use Rattle.tree.proofs.Naming.{terminals-change}
 use Rattle.tree.proofs.Searching.{Children, own, head-child}
 use Rattle.tree.proofs.Closing.{opened, opened-not, opened-closed, opened-same, opened-low, opened-in, opened-near, at-close, length-close, terminals-close, count-closed, isAt-closed}
@@ -35,13 +36,9 @@ pub record Lone (ns : List Node) (i : ℕ) : Type 0 where
   pub only : nodeAt ns i .children ≡ c ∷ []
 
 steiner-is : (x : Name) (t : Bool) → isSteiner x && t ≡ true → (k : ℕ) × (x ≡ steiner k)
-steiner-is source t e = clash e
+steiner-is source t e = no-way e
 steiner-is (steiner k) t e = (k, refl)
-steiner-is (terminal k) t e = clash e
-
-and-right : (a b : Bool) → a && b ≡ true → b ≡ true
-and-right true b e = e
-and-right false b e = clash e
+steiner-is (terminal k) t e = no-way e
 
 single : (cs : List ℕ) → length cs ≡ 1 → (c : ℕ) × (cs ≡ c ∷ [])
 single [] e = absurd (omega arith)
@@ -285,7 +282,7 @@ lone-found {t} f i l = by (nodeAt (t .nodes) i .parent) refl
     no-parent e (no h) = ap (λ (n : Node). n .name) (past (t .nodes) i (omega arith))
 
     by : (x : Parent) → nodeAt (t .nodes) i .parent ≡ x → Lone (t .nodes) i
-    by none e = clash (sym (ap (λ (x : Name). isSteiner x && eqb (length (nodeAt (t .nodes) i .children)) 1) (no-parent e (decLt i (length (t .nodes))))) ∙ l)
+    by none e = no-way (sym (ap (λ (x : Name). isSteiner x && eqb (length (nodeAt (t .nodes) i .children)) 1) (no-parent e (decLt i (length (t .nodes))))) ∙ l)
     by (at p) e = lone-below (t .nodes) i p l e
 
 module _ (t : Tree) (f : WellFormed t) (i : ℕ) (l : lone (t .nodes) i ≡ true) where

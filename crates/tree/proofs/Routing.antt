@@ -12,18 +12,21 @@ use lib.IntN.{ℤ}
 use Rattle.geometry.specs.declared.Point.{Point}
 use Rattle.geometry.specs.declared.Rectangle.{Rectangle}
 use Rattle.geometry.specs.Geometry.{dist}
+use Rattle.geometry.specs.Signed.{is-true}
 use Rattle.tree.specs.Tree.{Node, Tree, terminal, none, nodeAt, total, sumTo, terminals, numbered}
 use Rattle.tree.specs.Search.{Join, onto, split, find, blocked}
-use Rattle.tree.specs.Route.{newNode, attach, closest, insertSimple, joined, nextAfter, insert, inserts, rooted, sort, farthest, directs, route, constraints, steiners}
-use Rattle.tree.specs.Shape.{Linked, PathSums, Measured, Named, Ceiling, Bounded, nameOf, count, isAt}
+use Rattle.tree.specs.Route.{newNode, attach, closest, joined, nextAfter, insert, inserts, rooted, sort, farthest, directs, route, constraints, steiners}
+use Rattle.tree.proofs.Bounds.{Measured, Ceiling, Bounded}
+use Rattle.tree.specs.Shape.{Linked, PathSums, Named, nameOf, count, isAt}
 use Rattle.tree.specs.WellFormed.{Fits}
 use Rattle.tree.proofs.Order.{farthest-sort, directs-sort}
 use Rattle.tree.proofs.Nodes.{length-attach, length-split}
 use Rattle.tree.proofs.Linking.{child-in, parent-in, not-own, none-at, linked-attach, linked-split}
-use Rattle.tree.proofs.Measuring.{Core, core, core-new, core-old, core-tip, core-knot, core-rest, sums-attach, sums-split, measured-attach, measured-split, total-attach, total-split}
+use Rattle.tree.proofs.Totals.{total-attach, total-split}
+use Rattle.tree.proofs.Measuring.{Core, core, core-new, core-old, core-tip, core-knot, core-rest, sums-attach, sums-split, measured-attach, measured-split}
 use Rattle.tree.proofs.Naming.{source-terminal, named-split, terminals-joined}
 use Rattle.tree.proofs.Adding.{adds-attach, named-adds}
-use Rattle.tree.proofs.Searching.{added, reach, Worth, find-worth}
+use Rattle.tree.proofs.Searching.{added, joinedRun, Worth, find-worth}
 
 -- ---- one joining
 module _ (s : Point) (ns : List Node) (st te : ℕ) (q : Point) (g : Linked ns) where
@@ -64,7 +67,7 @@ module _ (s : Point) (ns : List Node) (st te : ℕ) (q : Point) (g : Linked ns) 
     old-ok i b l k e = b i k l e
 
     -- the old nodes keep what they carry, and the new terminal keeps to the ceiling
-    bounded-joined : (j : Join) → Fits ns j → Ceiling allowed w (dist s q) (reach ns q j) → Bounded s allowed w ns → (i : ℕ) → i < length (joined ns st te q j) → OK (core (nodeAt (joined ns st te q j) i))
+    bounded-joined : (j : Join) → Fits ns j → Ceiling allowed w (dist s q) (joinedRun ns q j) → Bounded s allowed w ns → (i : ℕ) → i < length (joined ns st te q j) → OK (core (nodeAt (joined ns st te q j) i))
     unfolding joined
     bounded-joined (onto p) h v b i l = by (decLt i (length ns))
       where
@@ -87,16 +90,12 @@ module _ (s : Point) (ns : List Node) (st te : ℕ) (q : Point) (g : Linked ns) 
             subst (λ (n : ℕ). OK (core (nodeAt (joined ns st te q (split p c)) n))) (omega (arith, long))
             (subst OK (sym (core-knot ns st te q p c g h)) (λ k e. absurd (let z : _≡_ {A = ℕ} 0 1 = cc in omega arith)))
 
-is-true : (b : Bool) → T b → b ≡ true
-is-true true t = refl
-is-true false t = absurd t
-
 is-false : (b : Bool) → (T b → ⊥) → b ≡ false
 is-false true t = absurd (t tt)
 is-false false t = refl
 
 ceiling : (s : Point) (ns : List Node) (q : Point) (g : Linked ns) (m : Measured s ns) (limit : ℕ) (allowed : ℤ) (j : Join) → Worth s ns q g m limit allowed j
-    → Ceiling allowed limit (dist s q) (reach ns q j)
+    → Ceiling allowed limit (dist s q) (joinedRun ns q j)
 ceiling s ns q g m limit allowed j v =
     record {
       inside = λ h. record { le = subst T (sym (v .inside (is-true _ (h .le)))) tt };
@@ -225,7 +224,7 @@ module _ (s : Point) (ts : List Point) (ks : List Rectangle) (allowance : ℕ �
   route-total =
       omega (arith, total-inserts s ks (sort s ts) t₀ (routed-start s _ _ _) (omega (arith, farthest-sort s ts)), total-start s (allowance (farthest s ts)) (farthest s ts) (farthest s ts), directs-sort s ts)
 
--- ---- mode 0: the links, the names and the terminals
+-- ---- mode 0: the closest node
 pub closest-in : (ns : List Node) (q : Point) → 0 < length ns → (k : ℕ) → k ≤ length ns → closest ns q k < length ns
 unfolding closest
 closest-in ns q h zero l = h
@@ -260,21 +259,3 @@ closest-first ns q (suc k) j h = by (ltb (dist (nodeAt ns k .point) q) (dist (no
         → dist (nodeAt ns (cond t k (closest ns q k)) .point) q < dist (nodeAt ns j .point) q
     by true e ih l = omega (arith, closest-least ns q k j l, ltb-true (dist (nodeAt ns k .point) q) (dist (nodeAt ns (closest ns q k) .point) q) e)
     by false e ih l = ih l
-
-pub record LinkedNamed (t : Tree) : Type 0 where
-  pub linked : Linked (t .nodes)
-  pub named : Named (length (t .nodes)) (nameOf (t .nodes)) (t .nextSteiner) (t .nextTerminal)
-
-planned-simple : (t : Tree) (q : Point) → LinkedNamed t → LinkedNamed (insertSimple t q)
-unfolding insertSimple
-planned-simple t q r =
-    let h = closest-in (t .nodes) q (r .linked .some) (length (t .nodes)) (omega arith) in
-    record {
-      linked = linked-attach (t .nodes) _ _ h (r .linked) refl refl;
-      named = named-adds (adds-attach (t .nodes) _ _ h) _ _ (r .linked .some) refl (r .named);
-    }
-
-pub planned-simples : (qs : List Point) (t : Tree) → LinkedNamed t → LinkedNamed (inserts insertSimple qs t)
-unfolding inserts
-planned-simples [] t r = r
-planned-simples (q ∷ qs) t r = planned-simples qs (insertSimple t q) (planned-simple t q r)

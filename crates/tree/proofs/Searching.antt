@@ -9,17 +9,21 @@ use lib.Dec.{eqb, leb, ltb}
 use lib.IntN.{ℤ, pos, negsuc}
 use lib.Signed.{leZ}
 use borrow.Author.Tests.{ltb-true, ltb-false, leb-true, le-leb, eqb-true, not-true}
+use Rattle.geometry.specs.Signed.{no-way}
 use Rattle.geometry.specs.declared.Point.{Point}
 use Rattle.geometry.specs.Geometry.{dist, same, box, nearest}
 use Rattle.tree.specs.Tree.{one}
 use Rattle.tree.specs.Tree.{Node, Parent, none, at, nodeAt}
 use Rattle.tree.specs.Search.{Join, onto, split, Best, Walk, Branch, branch, takes, joinAt, judge, examine, branches, walk, fresh, find}
-use Rattle.tree.specs.Shape.{Linked, Measured, count, isAt}
+use Rattle.tree.proofs.Bounds.{Measured}
+use Rattle.tree.specs.Shape.{Linked, count, isAt}
 use Rattle.tree.specs.WellFormed.{Fits}
 use Rattle.geometry.specs.Laws.{triangle, via-parent, near-parent}
-use Rattle.tree.proofs.Order.{clash, clash′, and-split, same-eq}
-use Rattle.tree.proofs.Linking.{child-in, parent-in, one-eq}
-use Rattle.tree.proofs.Measuring.{path-direct}
+use Rattle.tree.proofs.Deciding.{never, and-split}
+use Rattle.tree.proofs.Order.{same-eq}
+use Rattle.tree.proofs.Counting.{one-eq}
+use Rattle.tree.proofs.Linking.{child-in, parent-in}
+use Rattle.tree.proofs.Climbing.{path-direct}
 
 -- ---- a place to join
 -- the length that a joining adds
@@ -28,21 +32,21 @@ added ns q (onto p) = dist (nodeAt ns p .point) q
 added ns q (split p c) = branch (nodeAt ns p) (nodeAt ns c) q .D
 
 -- the path length of the terminal
-abbrev pub reach : List Node → Point → Join → ℕ
-reach ns q (onto p) = nodeAt ns p .path + dist (nodeAt ns p .point) q
-reach ns q (split p c) = branch (nodeAt ns p) (nodeAt ns c) q .L
+abbrev pub joinedRun : List Node → Point → Join → ℕ
+joinedRun ns q (onto p) = nodeAt ns p .path + dist (nodeAt ns p .point) q
+joinedRun ns q (split p c) = branch (nodeAt ns p) (nodeAt ns c) q .L
 
 le-down : (allowed : ℤ) (d l : ℕ) → d ≤ l → leZ (pos l) allowed ≡ true → leZ (pos d) allowed ≡ true
 le-down (pos a) d l h e = le-leb d a (omega (arith, leb-true l a e))
-le-down (negsuc a) d l h e = clash e
+le-down (negsuc a) d l h e = no-way e
 
 and-false : (a b : Bool) → a ≡ true → a && b ≡ false → b ≡ false
 and-false true b e f = f
-and-false false b e f = clash e
+and-false false b e f = no-way e
 
 pub not-or : (a b : Bool) → a ≡ true → not a || b ≡ true → b ≡ true
 not-or true b e f = f
-not-or false b e f = clash e
+not-or false b e f = no-way e
 
 -- every one of cs is a child of p
 abbrev pub Children : List Node → ℕ → List ℕ → Type 0
@@ -82,7 +86,7 @@ module _ (s : Point) (ns : List Node) (q : Point) (g : Linked ns) (m : Measured 
     record Good (x : Join) : Type 0 where
       fits : Fits ns x
       adds : added ns q x ≡ b .D
-      runs : reach ns q x ≡ b .L
+      runs : joinedRun ns q x ≡ b .L
 
     good : Good j
     good = by (same (b .near) (nodeAt ns p .point)) (same (b .near) (nodeAt ns c .point)) refl refl
@@ -113,8 +117,8 @@ module _ (s : Point) (ns : List Node) (q : Point) (g : Linked ns) (m : Measured 
   module _ (limit : ℕ) (allowed : ℤ) where
     data State (f : Best) : Type 0 where
       untaken : f .join ≡ onto 0 → State f
-      in-allowance : Fits ns (f .join) → added ns q (f .join) ≡ f .best → leZ (pos (reach ns q (f .join))) allowed ≡ true → dist s q ≤ reach ns q (f .join) → State f
-      in-limit : f .within ≡ false → Fits ns (f .join) → added ns q (f .join) ≡ f .best → reach ns q (f .join) ≤ limit → State f
+      in-allowance : Fits ns (f .join) → added ns q (f .join) ≡ f .best → leZ (pos (joinedRun ns q (f .join))) allowed ≡ true → dist s q ≤ joinedRun ns q (f .join) → State f
+      in-limit : f .within ≡ false → Fits ns (f .join) → added ns q (f .join) ≡ f .best → joinedRun ns q (f .join) ≤ limit → State f
 
     record Kept (f : Best) : Type 0 where
       state : State f
@@ -169,19 +173,19 @@ module _ (s : Point) (ns : List Node) (q : Point) (g : Linked ns) (m : Measured 
       first-step : (w t : Bool) → leZ (pos (B 0 c link .L)) allowed ≡ w → takes limit w (B 0 c link) (fresh limit) ≡ t → Kept (cond t (taken 0 c link w (fresh limit)) (fresh limit))
       unfolding takes
       first-step true true e d = record { state = took-within 0 c link (fresh limit) e; low = D-low; near-in = λ h. refl }
-      first-step true false e d = clash′ d
+      first-step true false e d = never d
       first-step false true e d =
           let h = and-split (leb (B 0 c link .L) limit) (ltb (B 0 c link .D) (max limit 1)) d in
           record {
             state = took-limit 0 c link (fresh limit) refl (leb-true (B 0 c link .L) limit (h .0));
             low = D-low;
-            near-in = λ h. clash (sym e ∙ ap (λ (l : ℕ). leZ (pos l) allowed) L-is ∙ h);
+            near-in = λ h. no-way (sym e ∙ ap (λ (l : ℕ). leZ (pos l) allowed) L-is ∙ h);
           }
       first-step false false e d =
           record {
             state = untaken refl;
             low = omega (arith, D-low, ltb-false (B 0 c link .D) (max limit 1) (and-false _ _ (le-leb (B 0 c link .L) limit (omega (arith, L-is))) d));
-            near-in = λ h. clash (sym e ∙ ap (λ (l : ℕ). leZ (pos l) allowed) L-is ∙ h);
+            near-in = λ h. no-way (sym e ∙ ap (λ (l : ℕ). leZ (pos l) allowed) L-is ∙ h);
           }
 
     module _ (shut : Point → Point → Point → Point → Bool) where
@@ -251,8 +255,8 @@ module _ (s : Point) (ns : List Node) (q : Point) (g : Linked ns) (m : Measured 
     pub record Worth (x : Join) : Type 0 where
       pub fits : Fits ns x
       pub low : added ns q x ≤ dist s q
-      pub inside : leZ (pos (dist s q)) allowed ≡ true → leZ (pos (reach ns q x)) allowed ≡ true
-      pub outside : leZ (pos (dist s q)) allowed ≡ false → reach ns q x ≤ limit
+      pub inside : leZ (pos (dist s q)) allowed ≡ true → leZ (pos (joinedRun ns q x)) allowed ≡ true
+      pub outside : leZ (pos (dist s q)) allowed ≡ false → joinedRun ns q x ≤ limit
 
     straight : dist s q ≤ limit → Worth (onto 0)
     straight small =
@@ -275,9 +279,9 @@ module _ (s : Point) (ns : List Node) (q : Point) (g : Linked ns) (m : Measured 
         by : State f → Worth (f .join)
         by (untaken e) = subst Worth (sym e) (straight small)
         by (in-allowance a b c d) =
-            record { fits = a; low = omega (arith, k .low); inside = λ e. c; outside = λ e. clash (sym e ∙ le-down allowed (dist s q) _ d c) }
+            record { fits = a; low = omega (arith, k .low); inside = λ e. c; outside = λ e. no-way (sym e ∙ le-down allowed (dist s q) _ d c) }
         by (in-limit w a b c) =
-            record { fits = a; low = omega (arith, k .low); inside = λ e. clash′ (sym (k .near-in e) ∙ w); outside = λ e. c }
+            record { fits = a; low = omega (arith, k .low); inside = λ e. never (sym (k .near-in e) ∙ w); outside = λ e. c }
 
     pub find-worth : (shut : Point → Point → Point → Point → Bool) → dist s q ≤ limit → Worth (find shut ns limit allowed q)
     unfolding find

@@ -16,10 +16,11 @@ use Rattle.tree.specs.Route.{newNode, splice}
 use Rattle.tree.specs.Edits.{Next, spliced}
 use Rattle.tree.specs.WellFormed.{WellFormed}
 use Rattle.tree.specs.Shape.{count, isAt, Linked}
-use Rattle.tree.proofs.Order.{Tri, less, equal, more, tri}
+use Rattle.tree.proofs.Deciding.{Tri, less, equal, more, tri}
 use Rattle.tree.proofs.Nodes.{past, in-front, behind, changedTwo, length-two, AtTwo, first, second, neither, at-two}
-use Rattle.tree.proofs.Linking.{linked-by, one-eq, one-ne, count-snoc, count-without, count-gone, none-at, child-in, parent-in, not-own, out-parent, out-children}
-use Rattle.tree.proofs.Measuring.{core, at-inj}
+use Rattle.tree.proofs.Counting.{one-eq, one-ne, count-snoc, count-without, count-gone}
+use Rattle.tree.proofs.Linking.{linked-by, none-at, child-in, parent-in, not-own, out-parent, out-children, at-inj}
+use Rattle.tree.proofs.Measuring.{core}
 use Rattle.tree.proofs.Naming.{terminals-append, terminals-change}
 use Rattle.tree.proofs.Adding.{Adds}
 use Rattle.tree.proofs.Forming.{formed-adds}

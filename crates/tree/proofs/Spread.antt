@@ -1,4 +1,4 @@
--- Coordinates stay within the limit.
+-- Coordinates stay within the limit: a new point is given within it, and a Steiner node lies in the box of two points that are.
 use mathlib.Core.List.{List}
 use Prim.Native.Nat.{ℕ}
 use Rattle.geometry.specs.declared.Point.{Point}

@@ -94,3 +94,7 @@ lookup ns n (suc k) = first (lookup ns n k)
     first : Lookup → Lookup
     first (found i) = found i
     first missing = cond (sameName (nodeAt ns k .name) n) (found k) missing
+
+-- among all nodes
+abbrev pub lookupIn : List Node → Name → Lookup
+lookupIn ns n = lookup ns n (length ns)

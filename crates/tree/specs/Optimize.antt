@@ -75,7 +75,7 @@ remove i ns = removeBelow i ns (nodeAt ns i .parent)
 abbrev pub chosen : List Node → List ℕ
 chosen ns = those (lone ns) (length ns)
 
--- they "go from highest index down": the last of the list goes first
+-- they "go from highest index down": the last of the list goes first. None is left after it (`none-left`, proofs/Optimizing.antt)
 unfoldable pub optimized : List Node → List Node
 optimized ns = foldr remove ns (chosen ns)
 

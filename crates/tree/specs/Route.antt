@@ -92,18 +92,36 @@ closest ns q (suc k) =
     let b = closest ns q k in
     cond (ltb (dist (nodeAt ns k .point) q) (dist (nodeAt ns b .point) q)) k b
 
--- "Mode 0 .. join the node of least d .. These .. leave the new node's path length 0 and add it last among its parent's children."
-unfoldable pub insertSimple : Tree → Point → Tree
-insertSimple t q =
-    let p = closest (t .nodes) q (length (t .nodes)) in
+-- the numbers that come next, after a name is given out
+abbrev pub steinerAfter : Name → ℕ → ℕ
+steinerAfter source n = n
+steinerAfter (steiner k) n = suc n
+steinerAfter (terminal k) n = n
+
+abbrev pub terminalAfter : Name → ℕ → ℕ
+terminalAfter source n = n
+terminalAfter (steiner k) n = n
+terminalAfter (terminal k) n = suc n
+
+-- the tree with other nodes, after a name is given out
+abbrev pub grown : Tree → Name → List Node → Tree
+grown t n ns =
     record {
-      nodes = attach (t .nodes) p (newNode (terminal (t .nextTerminal)) p q [] 0);
+      nodes = ns;
       allowed = t .allowed;
       farthest = t .farthest;
       limit = t .limit;
-      nextSteiner = t .nextSteiner;
-      nextTerminal = suc (t .nextTerminal);
+      nextSteiner = steinerAfter n (t .nextSteiner);
+      nextTerminal = terminalAfter n (t .nextTerminal);
     }
+
+-- "leave the new node's path length 0 and add it last among its parent's children": of mode 0 and of the inserts by hand
+abbrev pub attached : Tree → Name → Point → ℕ → Tree
+attached t n q p = grown t n (attach (t .nodes) p (newNode n p q [] 0))
+
+-- "Mode 0 .. join the node of least d"
+unfoldable pub insertSimple : Tree → Point → Tree
+insertSimple t q = attached t (terminal (t .nextTerminal)) q (closest (t .nodes) q (length (t .nodes)))
 
 -- the points are joined in order
 unfoldable pub inserts : (Tree → Point → Tree) → List Point → Tree → Tree

@@ -1,12 +1,9 @@
 -- What every tree that the calls give is: its links agree and lead to the source, its names are distinct; and of one that the search routed, that path lengths are Manhattan sums.
 use mathlib.Core.Path.{_≡_}
 use mathlib.Core.List.{List, [], _∷_}
-use Prim.Native.Nat.{ℕ, _+_, _≤_, _<_}
+use Prim.Native.Nat.{ℕ, _+_, _<_}
 use lib.ListN.{length}
 use lib.Dec.{eqb}
-use lib.IntN.{ℤ, pos}
-use lib.Signed.{_≤ℤ_}
-use Rattle.geometry.specs.declared.Point.{Point}
 use Rattle.geometry.specs.Geometry.{dist}
 use Rattle.tree.specs.Tree.{one, Node, Name, source, steiner, terminal, Parent, none, at, nodeAt}
 
@@ -35,11 +32,6 @@ pub record Linked (ns : List Node) : Type 0 where
 abbrev pub PathSums : List Node → Type 0
 PathSums ns = (c p : ℕ) → nodeAt ns c .parent ≡ at p → nodeAt ns c .path ≡ nodeAt ns p .path + dist (nodeAt ns p .point) (nodeAt ns c .point)
 
-pub record Measured (s : Point) (ns : List Node) : Type 0 where
-  pub source-point : nodeAt ns 0 .point ≡ s
-  pub source-path : nodeAt ns 0 .path ≡ 0
-  pub paths : PathSums ns
-
 -- a number from 1 up to what is given next
 abbrev pub Given : ℕ → ℕ → Name → Type 0
 Given st te source = ⊥
@@ -56,11 +48,3 @@ pub record Named (n : ℕ) (name : ℕ → Name) (st te : ℕ) : Type 0 where
 
 abbrev pub nameOf : List Node → ℕ → Name
 nameOf ns i = nodeAt ns i .name
-
--- a terminal at distance d from the source, and its path of length l: within the allowance where it can be, and never longer than w
-pub record Ceiling (allowed : ℤ) (w d l : ℕ) : Type 0 where
-  pub inside : pos d ≤ℤ allowed → pos l ≤ℤ allowed
-  pub outside : (pos d ≤ℤ allowed → ⊥) → l ≤ w
-
-abbrev pub Bounded : Point → ℤ → ℕ → List Node → Type 0
-Bounded s allowed w ns = (i k : ℕ) → i < length ns → nameOf ns i ≡ terminal k → Ceiling allowed w (dist s (nodeAt ns i .point)) (nodeAt ns i .path)

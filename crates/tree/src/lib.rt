@@ -20,6 +20,9 @@ pub const MOST_NODES: usize = 250;
 // `worst_wirelength` of a fresh tree.
 pub const NO_LIMIT: u32 = 2147483647;
 
+// The path length of a node that no search has joined.
+pub const UNMEASURED: u32 = 0;
+
 // What stands for no node in a column of indices.
 pub const NO_NODE: u16 = 65535;
 

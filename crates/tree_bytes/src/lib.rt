@@ -229,8 +229,30 @@ fn put_tree<'a>(
     requires { ⌜ Stands (lent (now xs) (now ys) (now path) (now parent) (now kind) (now number) (now last) (now prev)) n ⌝ }
     ensures { λ r. ⌜ Puts (now (out .entry)) at (bytesOf (nodesOf (lent (now (xs .entry)) (now (ys .entry)) (now (path .entry)) (now (parent .entry)) (now (kind .entry)) (now (number .entry)) (now (last .entry)) (now (prev .entry))) n) (f .allowed) (f .farthest)) (now (out .exit)) r ⌝ }
 {
-    let terminals = count_of(xs, ys, path, parent, kind, number, last, prev, n, 2);
-    let steiners = count_of(xs, ys, path, parent, kind, number, last, prev, n, 1);
+    let terminals = count_of(
+        xs,
+        ys,
+        path,
+        parent,
+        kind,
+        number,
+        last,
+        prev,
+        n,
+        tree::TERMINAL,
+    );
+    let steiners = count_of(
+        xs,
+        ys,
+        path,
+        parent,
+        kind,
+        number,
+        last,
+        prev,
+        n,
+        tree::STEINER,
+    );
     let total = measures::total_wirelength(xs, ys, path, parent, kind, number, last, prev, n);
     let worst = measures::worst_wirelength(xs, ys, path, parent, kind, number, last, prev, n);
     let p = put_header(out, at, n as u8, terminals, steiners, f, total, worst);

@@ -1,5 +1,7 @@
 -- Laws of fields: what a field depends on, its parts and its bound; what is written is read again, and nothing else changes; two's complement both ways.
--- The idea: a field is its k bytes (`le-ext`), so a law of one byte is one of every width.
+-- The idea: a field is its k bytes (`le-ext`), so a law of one byte is one of every width. That a field is below its bound (`le-below`), gives its bytes
+-- again (`leBytes-bytes`), and that numbers and signed fields go both ways (`twos-fits`, `bits-twos`, `int32-written`, `int32-past`) is what shows that
+-- the definitions are a format's; the code does not cite it.
 use mathlib.Core.Path.{_≡_, refl, sym, ap, _∙_}
 use mathlib.Core.Logic.{_⊎_, ⊎-elim}
 use mathlib.Core.Bool.{Bool, true, false, cond}

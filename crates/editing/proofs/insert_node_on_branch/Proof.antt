@@ -2,7 +2,8 @@
 use mathlib.Core.Path.{refl, sym, _∙_}
 use Rattle.job.proofs.Accepted.{within}
 use Rattle.editing.specs.Edits.{insertNodeOnBranch}
-use Rattle.editing.proofs.Refusing.{stop, past, lost, there, of-all, in-tree, of-kind}
+use Rattle.nodes.proofs.TableSizes.{of-all}
+use Rattle.editing.proofs.Refusing.{stop, past, lost, there, in-tree, of-kind}
 use borrow.Author.Needs.{needs}
 use Rattle.editing.proofs.insert_node_on_branch.Statement.{statement}
 use Rattle.editing.proofs.insert_node_on_branch.Tie as tie

@@ -5,7 +5,8 @@ use lib.ListN.{getD}
 use lib.Dec.{eqb}
 use Rattle.tree.specs.Tree.{Node}
 use Rattle.editing.specs.Edits.{isChildOf}
-use Rattle.editing.proofs.Refusing.{child-is, size}
+use Rattle.nodes.proofs.TableSizes.{size}
+use Rattle.editing.proofs.Refusing.{child-is}
 use borrow.Author.Needs.{needs}
 use Rattle.editing.proofs.is_child.Statement.{statement}
 use Rattle.editing.proofs.is_child.Tie as tie

@@ -2,7 +2,8 @@
 use mathlib.Core.Path.{ap, _∙_}
 use Rattle.tree.specs.Measures.{found}
 use Rattle.nearest.proofs.Closest.{near-points, closest-is}
-use Rattle.editing.proofs.Refusing.{size, default-is, named-is}
+use Rattle.nodes.proofs.TableSizes.{size}
+use Rattle.editing.proofs.Refusing.{default-is, named-is}
 use borrow.Author.Needs.{needs}
 use Rattle.editing.proofs.terminal_parent.Statement.{statement}
 use Rattle.editing.proofs.terminal_parent.Tie as tie

@@ -103,7 +103,7 @@ examine-children-requires c κs =
             record {
               here = record { in-xs = omega (arith, f .in-xs, f .in-prev); in-ys = omega (arith, f .in-ys, f .in-prev); in-path = omega (arith, f .in-path, f .in-prev) };
               in-last = omega (arith, f .in-last, f .in-prev);
-              boxed = record { in-lows = omega (arith, g .in-lows); in-highs = omega (arith, g .in-highs) };
+              boxed = record { in-lows = omega (arith, g .room .in-lows); in-highs = omega (arith, g .room .in-highs) };
               near = record {
                 within = f .within;
                 p = subst (λ (x : NodeView). Within reach (x .point)) (sym e) (f .near _ (x .here));

@@ -3,10 +3,11 @@ use mathlib.Core.Path.{refl}
 use native.Mathlib.Omega.{arith}
 use Rattle.geometry.specs.Signed.{In32, home}
 use Rattle.tree.specs.Memory.{nameIn}
-use Rattle.tree.specs.Edits.{attached}
+use Rattle.tree.specs.Route.{attached}
 use Rattle.tree.proofs.Forming.{formed-attached}
 use Rattle.hand_inserts.specs.Insert.{Below}
-use Rattle.table_steps.proofs.Stepping.{size, stands, stepped}
+use Rattle.nodes.proofs.TableSizes.{size}
+use Rattle.table_steps.proofs.Stepping.{stands, stepped}
 use Rattle.table_steps.proofs.Sizes.{one-leaf, number-after}
 use Rattle.nodes.specs.Table.{tableTree}
 use borrow.Author.Needs.{needs}
@@ -43,14 +44,14 @@ slice-aggregate-insert-leaf-9 c = search needs
 insert-leaf-requires : tie.Need-insert-leaf-requires
 insert-leaf-requires c κs =
     let v = c .before .before .before .before .before .before .before .before .before .before .before .before .before .before .before .before .before .before .pre .0 in
-    stands (v .tabled) (Below (nameIn (c .before .before .before .before .before .before .before .before .before .before .before .before .before .before .before .before .before .before .args .name)) (c .before .before .before .before .before .before .before .before .before .before .before .before .before .before .before .before .before .before .args .p .0)) 1 _ (omega (arith, c .before .before .before .before .before .before .before .before .before .before .before .before .before .before .before .before .before .before .pre .1 .0, size (v .tabled)), v .next) (c .before .before .before .before .before .before .before .before .before .before .before .before .before .before .before .before .before .before .pre .1 .1 .0) (v .within)
+    stands (v .tabled) (Below (nameIn (c .before .before .before .before .before .before .before .before .before .before .before .before .before .before .before .before .before .before .args .name)) (c .before .before .before .before .before .before .before .before .before .before .before .before .before .before .before .before .before .before .args .p .0)) 1 _ (omega (arith, c .before .before .before .before .before .before .before .before .before .before .before .before .before .before .before .before .before .before .pre .1 .0, size (c .before .before .before .before .before .before .before .before .before .before .before .before .before .before .before .before .before .before .args .t)), v .next) (c .before .before .before .before .before .before .before .before .before .before .before .before .before .before .before .before .before .before .pre .1 .1 .0) (v .within)
 
 returns : tie.Need-returns
 returns c =
     let a = c .before .before .before .before .before .before .before .before .before .before .before .before .before .before .before .before .before .before .before .before .before .before .before .before .before .before .before .before .before .args in
     let v = c .before .before .before .before .before .before .before .before .before .before .before .before .before .before .before .before .before .before .before .before .before .before .before .before .before .before .before .before .before .pre .0 .tabled in
     let f : In32 (a .t .allowed) = search needs in
-    stepped v (Below (nameIn (a .name)) (a .p .0)) (omega (arith, c .before .before .before .before .before .before .before .before .before .before .before .before .before .before .before .before .before .before .before .before .before .before .before .before .before .before .before .before .before .pre .1 .0, size v), c .before .before .before .before .before .before .before .before .before .before .before .before .before .before .before .before .before .before .before .before .before .before .before .before .before .before .before .before .before .pre .0 .next) (λ x. attached x (nameIn (a .name)) (a .q) (a .p .0)) (formed-attached (tableTree (a .t)) (v .formed) (nameIn (a .name)) (c .before .before .before .before .before .before .before .before .before .before .before .before .before .before .before .before .before .before .before .before .before .before .before .before .before .before .before .before .before .pre .0 .next) (a .q) (c .before .before .before .before .before .before .before .before .before .before .before .before .before .before .before .before .before .before .before .before .before .before .before .before .before .before .before .before .before .pre .0 .within) (a .p .0) (omega (arith, c .before .before .before .before .before .before .before .before .before .before .before .before .before .before .before .before .before .before .before .before .before .before .before .before .before .before .before .before .before .pre .1 .0, size v))) (omega (arith, one-leaf (tableTree (a .t)) (v .formed) (nameIn (a .name)) (a .q) (a .p .0) (omega (arith, c .before .before .before .before .before .before .before .before .before .before .before .before .before .before .before .before .before .before .before .before .before .before .before .before .before .before .before .before .before .pre .1 .0, size v)), size v, c .before .before .before .before .before .before .before .before .before .before .before .before .before .before .before .before .before .before .before .before .before .before .before .before .before .before .before .before .before .pre .1 .1 .0)) (number-after (tableTree (a .t)) (v .formed) (nameIn (a .name)) (c .before .before .before .before .before .before .before .before .before .before .before .before .before .before .before .before .before .before .before .before .before .before .before .before .before .before .before .before .before .pre .0 .next) _ (v .steiners) (c .before .before .before .before .before .before .before .before .before .before .before .before .before .before .before .before .before .before .before .before .before .before .before .before .before .before .before .before .before .pre .1 .1 .1)) _ (c .before .before .before .before .before .before .before .before .before .before .insert-leaf .ensures) (home f) refl refl (refl, refl)
+    stepped v (Below (nameIn (a .name)) (a .p .0)) (omega (arith, c .before .before .before .before .before .before .before .before .before .before .before .before .before .before .before .before .before .before .before .before .before .before .before .before .before .before .before .before .before .pre .1 .0, size (a .t)), c .before .before .before .before .before .before .before .before .before .before .before .before .before .before .before .before .before .before .before .before .before .before .before .before .before .before .before .before .before .pre .0 .next) (λ x. attached x (nameIn (a .name)) (a .q) (a .p .0)) (formed-attached (tableTree (a .t)) (v .formed) (nameIn (a .name)) (c .before .before .before .before .before .before .before .before .before .before .before .before .before .before .before .before .before .before .before .before .before .before .before .before .before .before .before .before .before .pre .0 .next) (a .q) (c .before .before .before .before .before .before .before .before .before .before .before .before .before .before .before .before .before .before .before .before .before .before .before .before .before .before .before .before .before .pre .0 .within) (a .p .0) (omega (arith, c .before .before .before .before .before .before .before .before .before .before .before .before .before .before .before .before .before .before .before .before .before .before .before .before .before .before .before .before .before .pre .1 .0, size (a .t)))) (omega (arith, one-leaf (tableTree (a .t)) (v .formed) (nameIn (a .name)) (a .q) (a .p .0) (omega (arith, c .before .before .before .before .before .before .before .before .before .before .before .before .before .before .before .before .before .before .before .before .before .before .before .before .before .before .before .before .before .pre .1 .0, size (a .t))), size (a .t), c .before .before .before .before .before .before .before .before .before .before .before .before .before .before .before .before .before .before .before .before .before .before .before .before .before .before .before .before .before .pre .1 .1 .0)) (number-after (tableTree (a .t)) (v .formed) (nameIn (a .name)) (c .before .before .before .before .before .before .before .before .before .before .before .before .before .before .before .before .before .before .before .before .before .before .before .before .before .before .before .before .before .pre .0 .next) _ (v .steiners) (c .before .before .before .before .before .before .before .before .before .before .before .before .before .before .before .before .before .before .before .before .before .before .before .before .before .before .before .before .before .pre .1 .1 .1)) _ (c .before .before .before .before .before .before .before .before .before .before .insert-leaf .ensures) (home f) refl refl (refl, refl)
 
 pub with-leaf-spec : {M : Type 1} → statement M
 with-leaf-spec =

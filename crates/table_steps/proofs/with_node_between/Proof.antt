@@ -6,7 +6,8 @@ use Rattle.tree.specs.Memory.{nameIn}
 use Rattle.tree.specs.Edits.{spliced}
 use Rattle.tree.proofs.Splicing.{formed-spliced}
 use Rattle.hand_inserts.specs.Insert.{Between}
-use Rattle.table_steps.proofs.Stepping.{size, stands, stepped}
+use Rattle.nodes.proofs.TableSizes.{size}
+use Rattle.table_steps.proofs.Stepping.{stands, stepped}
 use Rattle.table_steps.proofs.Sizes.{one-between, number-after}
 use Rattle.nodes.specs.Table.{tableTree}
 use borrow.Author.Needs.{needs}
@@ -50,7 +51,7 @@ returns c =
     let a = c .before .before .before .before .before .before .before .before .before .before .before .before .before .before .before .before .before .before .before .before .before .before .before .before .before .before .before .before .before .args in
     let v = c .before .before .before .before .before .before .before .before .before .before .before .before .before .before .before .before .before .before .before .before .before .before .before .before .before .before .before .before .before .pre .0 .tabled in
     let f : In32 (a .t .allowed) = search needs in
-    stepped v (Between (nameIn (a .name)) (a .p .0) (a .c .0)) (c .before .before .before .before .before .before .before .before .before .before .before .before .before .before .before .before .before .before .before .before .before .before .before .before .before .before .before .before .before .pre .1 .0, c .before .before .before .before .before .before .before .before .before .before .before .before .before .before .before .before .before .before .before .before .before .before .before .before .before .before .before .before .before .pre .0 .next) (λ x. spliced x (nameIn (a .name)) (a .q) (a .p .0) (a .c .0)) (formed-spliced (tableTree (a .t)) (v .formed) (nameIn (a .name)) (c .before .before .before .before .before .before .before .before .before .before .before .before .before .before .before .before .before .before .before .before .before .before .before .before .before .before .before .before .before .pre .0 .next) (a .q) (c .before .before .before .before .before .before .before .before .before .before .before .before .before .before .before .before .before .before .before .before .before .before .before .before .before .before .before .before .before .pre .0 .within) (a .p .0) (a .c .0) (c .before .before .before .before .before .before .before .before .before .before .before .before .before .before .before .before .before .before .before .before .before .before .before .before .before .before .before .before .before .pre .1 .0)) (omega (arith, one-between (tableTree (a .t)) (v .formed) (nameIn (a .name)) (a .q) (a .p .0) (a .c .0) (c .before .before .before .before .before .before .before .before .before .before .before .before .before .before .before .before .before .before .before .before .before .before .before .before .before .before .before .before .before .pre .1 .0), size v, c .before .before .before .before .before .before .before .before .before .before .before .before .before .before .before .before .before .before .before .before .before .before .before .before .before .before .before .before .before .pre .1 .1 .0)) (number-after (tableTree (a .t)) (v .formed) (nameIn (a .name)) (c .before .before .before .before .before .before .before .before .before .before .before .before .before .before .before .before .before .before .before .before .before .before .before .before .before .before .before .before .before .pre .0 .next) _ (v .steiners) (c .before .before .before .before .before .before .before .before .before .before .before .before .before .before .before .before .before .before .before .before .before .before .before .before .before .before .before .before .before .pre .1 .1 .1)) _ (c .before .before .before .before .before .before .before .before .before .before .insert-between .ensures) (home f) refl refl (refl, refl)
+    stepped v (Between (nameIn (a .name)) (a .p .0) (a .c .0)) (c .before .before .before .before .before .before .before .before .before .before .before .before .before .before .before .before .before .before .before .before .before .before .before .before .before .before .before .before .before .pre .1 .0, c .before .before .before .before .before .before .before .before .before .before .before .before .before .before .before .before .before .before .before .before .before .before .before .before .before .before .before .before .before .pre .0 .next) (λ x. spliced x (nameIn (a .name)) (a .q) (a .p .0) (a .c .0)) (formed-spliced (tableTree (a .t)) (v .formed) (nameIn (a .name)) (c .before .before .before .before .before .before .before .before .before .before .before .before .before .before .before .before .before .before .before .before .before .before .before .before .before .before .before .before .before .pre .0 .next) (a .q) (c .before .before .before .before .before .before .before .before .before .before .before .before .before .before .before .before .before .before .before .before .before .before .before .before .before .before .before .before .before .pre .0 .within) (a .p .0) (a .c .0) (c .before .before .before .before .before .before .before .before .before .before .before .before .before .before .before .before .before .before .before .before .before .before .before .before .before .before .before .before .before .pre .1 .0)) (omega (arith, one-between (tableTree (a .t)) (v .formed) (nameIn (a .name)) (a .q) (a .p .0) (a .c .0) (c .before .before .before .before .before .before .before .before .before .before .before .before .before .before .before .before .before .before .before .before .before .before .before .before .before .before .before .before .before .pre .1 .0), size (a .t), c .before .before .before .before .before .before .before .before .before .before .before .before .before .before .before .before .before .before .before .before .before .before .before .before .before .before .before .before .before .pre .1 .1 .0)) (number-after (tableTree (a .t)) (v .formed) (nameIn (a .name)) (c .before .before .before .before .before .before .before .before .before .before .before .before .before .before .before .before .before .before .before .before .before .before .before .before .before .before .before .before .before .pre .0 .next) _ (v .steiners) (c .before .before .before .before .before .before .before .before .before .before .before .before .before .before .before .before .before .before .before .before .before .before .before .before .before .before .before .before .before .pre .1 .1 .1)) _ (c .before .before .before .before .before .before .before .before .before .before .insert-between .ensures) (home f) refl refl (refl, refl)
 
 pub with-node-between-spec : {M : Type 1} → statement M
 with-node-between-spec =

@@ -6,7 +6,8 @@ use Rattle.tree.specs.Route.{join}
 use Rattle.tree.proofs.Forming.{formed-join}
 use Rattle.search.specs.Find.{joinOf}
 use Rattle.joining.specs.Standing.{At}
-use Rattle.table_steps.proofs.Stepping.{size, stands, stepped}
+use Rattle.nodes.proofs.TableSizes.{size}
+use Rattle.table_steps.proofs.Stepping.{stands, stepped}
 use Rattle.table_steps.proofs.Sizes.{joined-size, joined-number}
 use Rattle.nodes.specs.Table.{tableTree}
 use borrow.Author.Needs.{needs}
@@ -48,7 +49,7 @@ returns c =
     let a = c .before .before .before .before .before .before .before .before .before .before .before .before .before .before .before .before .before .before .before .before .before .before .before .before .before .before .before .before .before .args in
     let v = c .before .before .before .before .before .before .before .before .before .before .before .before .before .before .before .before .before .before .before .before .before .before .before .before .before .before .before .before .before .pre .0 .0 in
     let f : In32 (a .t .allowed) = search needs in
-    stepped v (At (a .j)) (c .before .before .before .before .before .before .before .before .before .before .before .before .before .before .before .before .before .before .before .before .before .before .before .before .before .before .before .before .before .pre .1 .0) (λ x. join x (a .q) (joinOf (a .j))) (formed-join (tableTree (a .t)) (v .formed) (a .q) (c .before .before .before .before .before .before .before .before .before .before .before .before .before .before .before .before .before .before .before .before .before .before .before .before .before .before .before .before .before .pre .0 .1) (joinOf (a .j)) (c .before .before .before .before .before .before .before .before .before .before .before .before .before .before .before .before .before .before .before .before .before .before .before .before .before .before .before .before .before .pre .1 .0)) (omega (arith, joined-size (tableTree (a .t)) (v .formed) (a .q) (joinOf (a .j)) (c .before .before .before .before .before .before .before .before .before .before .before .before .before .before .before .before .before .before .before .before .before .before .before .before .before .before .before .before .before .pre .1 .0), size v, c .before .before .before .before .before .before .before .before .before .before .before .before .before .before .before .before .before .before .before .before .before .before .before .before .before .before .before .before .before .pre .1 .1 .0)) (joined-number (a .t) (joinOf (a .j)) _ (v .steiners) (c .before .before .before .before .before .before .before .before .before .before .before .before .before .before .before .before .before .before .before .before .before .before .before .before .before .before .before .before .before .pre .1 .1 .1)) _ (c .before .before .before .before .before .before .before .before .before .before .join .ensures) (home f) refl refl (refl, refl)
+    stepped v (At (a .j)) (c .before .before .before .before .before .before .before .before .before .before .before .before .before .before .before .before .before .before .before .before .before .before .before .before .before .before .before .before .before .pre .1 .0) (λ x. join x (a .q) (joinOf (a .j))) (formed-join (tableTree (a .t)) (v .formed) (a .q) (c .before .before .before .before .before .before .before .before .before .before .before .before .before .before .before .before .before .before .before .before .before .before .before .before .before .before .before .before .before .pre .0 .1) (joinOf (a .j)) (c .before .before .before .before .before .before .before .before .before .before .before .before .before .before .before .before .before .before .before .before .before .before .before .before .before .before .before .before .before .pre .1 .0)) (omega (arith, joined-size (tableTree (a .t)) (v .formed) (a .q) (joinOf (a .j)) (c .before .before .before .before .before .before .before .before .before .before .before .before .before .before .before .before .before .before .before .before .before .before .before .before .before .before .before .before .before .pre .1 .0), size (a .t), c .before .before .before .before .before .before .before .before .before .before .before .before .before .before .before .before .before .before .before .before .before .before .before .before .before .before .before .before .before .pre .1 .1 .0)) (joined-number (a .t) (joinOf (a .j)) _ (v .steiners) (c .before .before .before .before .before .before .before .before .before .before .before .before .before .before .before .before .before .before .before .before .before .before .before .before .before .before .before .before .before .pre .1 .1 .1)) _ (c .before .before .before .before .before .before .before .before .before .before .join .ensures) (home f) refl refl (refl, refl)
 
 pub with-terminal-spec : {M : Type 1} → statement M
 with-terminal-spec =

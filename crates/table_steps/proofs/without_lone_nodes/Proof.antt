@@ -5,7 +5,8 @@ use Rattle.geometry.specs.Signed.{In32, home}
 use Rattle.tree.specs.Optimize.{optimize}
 use Rattle.tree.proofs.Optimizing.{formed-optimize, fewer-optimized}
 use Rattle.joining.specs.Standing.{Anything}
-use Rattle.table_steps.proofs.Stepping.{size, stands-in, stepped}
+use Rattle.nodes.proofs.TableSizes.{size}
+use Rattle.table_steps.proofs.Stepping.{stands-in, stepped}
 use Rattle.nodes.specs.Table.{tableTree}
 use borrow.Author.Needs.{needs}
 use Rattle.table_steps.proofs.without_lone_nodes.Statement.{statement}
@@ -46,7 +47,7 @@ returns c =
     let a = c .before .before .before .before .before .before .before .before .before .before .before .before .before .before .before .before .before .before .before .before .before .before .before .before .before .before .before .before .before .args in
     let v = c .before .before .before .before .before .before .before .before .before .before .before .before .before .before .before .before .before .before .before .before .before .before .before .before .before .before .before .before .before .pre in
     let f : In32 (a .t .allowed) = search needs in
-    stepped v Anything tt optimize (formed-optimize (tableTree (a .t)) (v .formed)) (omega (arith, fewer-optimized (tableTree (a .t)) (v .formed), size v, v .few)) (v .steiners) _ (c .before .before .before .before .before .before .before .before .before .before .optimize .ensures) (home f) refl refl (refl, refl)
+    stepped v Anything tt optimize (formed-optimize (tableTree (a .t)) (v .formed)) (omega (arith, fewer-optimized (tableTree (a .t)) (v .formed), size (a .t), v .few)) (v .steiners) _ (c .before .before .before .before .before .before .before .before .before .before .optimize .ensures) (home f) refl refl (refl, refl)
 
 pub without-lone-nodes-spec : {M : Type 1} → statement M
 without-lone-nodes-spec =
