@@ -10,6 +10,7 @@ use Rattle.geometry.specs.declared.Point.{Point}
 use Rattle.geometry.specs.declared.Rectangle.{Rectangle}
 use Rattle.geometry.specs.Geometry.{minZ, maxZ, clip, hull, inside, contains, covers}
 use Rattle.geometry.specs.Signed.{In, le-no, le-out, le-in, is-true, and-left, and-right}
+use Rattle.tree.proofs.Deciding.{and-join}
 use Rattle.tree.specs.Search.{nearestOn}
 use Rattle.search.specs.Boxes.{holds}
 use Rattle.boxes.specs.Covering.{pointBox, widen, HasPoint, HasBox}
@@ -94,10 +95,6 @@ module _ {z a b : ℤ} where
   clip-under v d e = max-least (le-then (min-left a b) d) (le-then (min-right v (maxZ a b)) (max-least d e))
 
 -- ---- the definitions of search/specs/Boxes, which are tests
-both : {a b : Bool} → a ≡ true → b ≡ true → (a && b) ≡ true
-both {a = true} e f = f
-both {a = false} e f = e
-
 yes : {a b : ℤ} → a ≤ℤ b → leZ a b ≡ true
 yes {a} {b} h = is-true (leZ a b) (h .le)
 
@@ -113,7 +110,7 @@ has-point b p e =
 
 pub point-test : {b : Rectangle} {p : Point} → HasPoint b p → contains b p ≡ true
 unfolding contains inside
-point-test h = both (both (yes (h .left)) (yes (h .right))) (both (yes (h .down)) (yes (h .up)))
+point-test h = and-join _ _ (and-join _ _ (yes (h .left)) (yes (h .right))) (and-join _ _ (yes (h .down)) (yes (h .up)))
 
 pub has-box : (b a : Rectangle) → holds b a ≡ true → HasBox b a
 unfolding covers
@@ -124,7 +121,7 @@ has-box b a e =
 
 pub box-test : {b a : Rectangle} → HasBox b a → holds b a ≡ true
 unfolding covers
-box-test h = both (both (yes (h .left)) (yes (h .right))) (both (yes (h .down)) (yes (h .up)))
+box-test h = and-join _ _ (and-join _ _ (yes (h .left)) (yes (h .right))) (and-join _ _ (yes (h .down)) (yes (h .up)))
 
 -- ---- boxes
 pub own-point : (q : Point) → HasPoint (pointBox q) q

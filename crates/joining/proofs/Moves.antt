@@ -11,7 +11,7 @@ use lib.Seq.{getD-set-same, getD-set-other}
 use borrow.Author.Tests.{eq-eqb, ne-eqb, eqb-true, eqb-false}
 use Rattle.tree.specs.Tree.{without}
 use Rattle.search.specs.Columns.{Chain, Has, Away, Distinct}
-use Rattle.search.proofs.Distinct.{same-without}
+use Rattle.search.proofs.Distinct.{same-without, away-not}
 use Rattle.joining.specs.Links.{beforeOf}
 
 -- a store outside a chain keeps it
@@ -40,11 +40,6 @@ chain-first prev c (x ∷ xs) d h v =
     let e : x ≡ c = sym (v .0) in
     rw (eq-eqb x c e)
     (subst (λ (l : List ℕ). Chain prev (getD prev c 0) l) (sym (same-without c xs (subst (λ (y : ℕ). Away y xs) e (d .0)))) (v .1 .1))
-
-away-has : (x c : ℕ) (xs : List ℕ) → Away x xs → Has c xs → x ≡ c → ⊥
-unfolding Away Has
-away-has x c [] a h e = h
-away-has x c (y ∷ ys) a h e = ⊎-elim (λ (z : y ≡ c). a .0 (z ∙ sym e)) (λ (z : Has c ys). away-has x c ys (a .1) z e) h
 
 before-has : (e : ℕ) (r : List ℕ) (c : ℕ) → Has (beforeOf (e ∷ r) c) (e ∷ r)
 unfolding Has beforeOf
@@ -86,7 +81,7 @@ module _ (prev : List ℕ) (l c x y : ℕ) (r : List ℕ) (d : Distinct (x ∷ y
   further k h =
       let w = getD prev c 0 in
       let b = beforeOf (y ∷ r) c in
-      let at : getD (set prev b w) l 0 ≡ getD prev l 0 = getD-set-other prev b l w 0 (λ e. away-has x b (y ∷ r) (d .0) (before-has y r c) (sym (v .0) ∙ e)) in
+      let at : getD (set prev b w) l 0 ≡ getD prev l 0 = getD-set-other prev b l w 0 (λ e. away-not b (y ∷ r) (subst (λ (z : ℕ). Away z (y ∷ r)) (sym (v .0) ∙ e) (d .0)) (before-has y r c)) in
       (v .0, (omega (arith, v .1 .0, length-set prev b w), subst (λ (m : ℕ). Chain (set prev b w) m k) (sym at) h))
 
   either-way : (t : Bool) → eqb y c ≡ t

@@ -9,7 +9,7 @@ use lib.Signed.{leZ}
 use lib.Dec.{T}
 use Rattle.geometry.specs.declared.Point.{Point}
 use Rattle.geometry.specs.declared.Rectangle.{Rectangle}
-use Rattle.geometry.specs.Geometry.{dist, box, same}
+use Rattle.geometry.specs.Geometry.{dist, same}
 use Rattle.tree.specs.Search.{nearestOn}
 use Rattle.tree.specs.Tree.{Node, nodeAt}
 use Rattle.tree.specs.Search as T
@@ -19,7 +19,7 @@ use Rattle.search.specs.declared.Best.{Best}
 use Rattle.search.specs.declared.Query.{Query}
 use Rattle.search.specs.declared.NodeView.{NodeView}
 use Rattle.search.specs.Walk.{Walk, examineChildren, walk, start, afterBranch, nodeIndex}
-use Rattle.search.specs.Branch.{examineBranch, stopsBy, blockedBy, isBlocked, judge, takeIt, joinAt}
+use Rattle.search.specs.Branch.{examineBranch, isBlocked, judge, takeIt, joinAt}
 use Rattle.search.specs.Find.{examined, joinOf}
 
 -- the search over the nodes of a tree, with what it reads of a node
@@ -34,15 +34,6 @@ bestOf b = record { join = joinOf (b .join); best = b .best; within = b .within 
 
 abbrev walkOf : Walk → T.Walk
 walkOf e = record { found = bestOf (e .found); stack = e .stack }
-
--- ---- keepouts
-stops-is : (q P C n : Point) (k : Rectangle) → T.stops q P C n k ≡ stopsBy k n (box n q) (box n P) (box n C)
-unfolding T.stops stopsBy
-stops-is q P C n k = refl
-
-blocked-is : (ks : List Rectangle) (q P C n : Point) → T.blocked ks q P C n ≡ blockedBy ks n q P C
-unfolding T.blocked
-blocked-is ks q P C n = λ i. T.anyOf (λ (k : Rectangle). stops-is q P C n k i) ks
 
 -- ---- the take rule
 takes-is : (limit : ℕ) (w : Bool) (b : T.Branch) (v : Bool) (best : ℕ) (j : T.Join) (f : Best) → f .within ≡ v → f .best ≡ best
@@ -99,9 +90,9 @@ module _ (ks : List Rectangle) (ns : List Node) (a : Query) where
         ≡ walkOf (afterBranch ks a (viewOf ns) (examineBranch ks a (viewOf ns p) (viewOf ns c) (e .found)) c (e .stack))
     unfolding T.examine isBlocked
     examine-is =
-        (λ i. cond (blocked-is ks (a .point) (nodeAt ns p .point) (nodeAt ns c .point) m i) (walkOf e)
+        (λ i. cond (T.blocked ks (a .point) (nodeAt ns p .point) (nodeAt ns c .point) m) (walkOf e)
         (record { found = judge-is p c (e .found) i; stack = c ∷ e .stack }))
-        ∙ by (blockedBy ks m (a .point) (nodeAt ns p .point) (nodeAt ns c .point)) (judge a (viewOf ns p) (viewOf ns c) m (e .found))
+        ∙ by (T.blocked ks (a .point) (nodeAt ns p .point) (nodeAt ns c .point) m) (judge a (viewOf ns p) (viewOf ns c) m (e .found))
       where
         by : (t : Bool) (g : Best) → cond t (walkOf e) (record { found = bestOf g; stack = c ∷ e .stack })
             ≡ walkOf (afterBranch ks a (viewOf ns) (cond t (record { found = e .found; pushed = false }) (record { found = g; pushed = true })) c (e .stack))

@@ -14,9 +14,9 @@ use Rattle.geometry.specs.declared.Rectangle.{Rectangle}
 use Rattle.geometry.specs.Geometry.{inside, contains, covers, hull, box, blocks}
 use Rattle.geometry.specs.Intervals.{covers-hull}
 use Rattle.geometry.specs.Signed.{no-way}
-use Rattle.tree.specs.Search.{anyOf}
+use Rattle.tree.specs.Search.{anyOf, stops}
 use Rattle.tree.specs.Memory.{keepoutsOf}
-use Rattle.search.specs.Branch.{stopsBy, stopsBranch, besideOf, keepoutAt}
+use Rattle.search.specs.Branch.{stopsBy, besideOf, keepoutAt}
 
 -- ---- one keepout: the four tests in turn
 module _ (k : Rectangle) (n : Point) (a b c : Rectangle) where
@@ -56,14 +56,18 @@ module _ (k : Rectangle) (n : Point) (ex : inside (k .xcoord) (n .xcoord) ≡ fa
   unfolding contains
   contains-none = rw ex
 
-  pub stops-none : (q P C : Point) → false ≡ stopsBranch n q P C k
-  unfolding stopsBy
+  pub stops-none : (q P C : Point) → false ≡ stops q P C n k
+  unfolding stops
   stops-none q P C = rw (contains-none, blocks-none q, blocks-none P, blocks-none C)
 
-pub beside-not : (k : Rectangle) (n q P C : Point) → besideOf k n ≡ false → false ≡ stopsBranch n q P C k
+pub stops-is : (k : Rectangle) (n q P C : Point) → stopsBy k n (box n q) (box n P) (box n C) ≡ stops q P C n k
+unfolding stops stopsBy
+stops-is k n q P C = refl
+
+pub beside-not : (k : Rectangle) (n q P C : Point) → besideOf k n ≡ false → false ≡ stops q P C n k
 beside-not k n q P C e = by (inside (k .xcoord) (n .xcoord)) (inside (k .ycoord) (n .ycoord)) refl refl e
   where
-    by : (s t : Bool) → inside (k .xcoord) (n .xcoord) ≡ s → inside (k .ycoord) (n .ycoord) ≡ t → (s || t) ≡ false → false ≡ stopsBranch n q P C k
+    by : (s t : Bool) → inside (k .xcoord) (n .xcoord) ≡ s → inside (k .ycoord) (n .ycoord) ≡ t → (s || t) ≡ false → false ≡ stops q P C n k
     by true t ex ey h = no-way (sym h)
     by false true ex ey h = no-way (sym h)
     by false false ex ey h = stops-none k n ex ey q P C

@@ -8,10 +8,10 @@ use lib.IntN.{ℤ, pos}
 use lib.Signed.{leZ}
 use Rattle.geometry.specs.declared.Point.{Point}
 use Rattle.geometry.specs.declared.Rectangle.{Rectangle}
-use Rattle.geometry.specs.Geometry.{dist, box, inside, contains, blocks, same}
+use Rattle.geometry.specs.Geometry.{dist, inside, contains, blocks, same}
 use Rattle.geometry.specs.Laws.{Within}
 use Rattle.tree.specs.Limits.{longestPath, reach}
-use Rattle.tree.specs.Search.{nearestOn, anyOf}
+use Rattle.tree.specs.Search.{nearestOn, blocked}
 use Rattle.search.specs.declared.Join.{Join}
 use Rattle.search.specs.declared.Join.the-variants.{Onto, Split}
 use Rattle.search.specs.declared.Best.{Best}
@@ -20,16 +20,9 @@ use Rattle.search.specs.declared.NodeView.{NodeView}
 use Rattle.search.specs.declared.Examined.{Examined}
 
 -- ---- keepouts
--- a keepout against a point and three boxes
+-- a keepout against a point and three boxes: `stops` of tree/specs/Search.antt, once the boxes are made (`stops-is`, proofs/Keepouts.antt)
 unfoldable pub stopsBy : Rectangle → Point → Rectangle → Rectangle → Rectangle → Bool
 stopsBy k n a b c = contains k n || (blocks k a || (blocks k b || blocks k c))
-
--- a keepout against the branch from P to C, whose nearest point to q is n
-abbrev pub stopsBranch : Point → Point → Point → Point → Rectangle → Bool
-stopsBranch n q P C k = stopsBy k n (box n q) (box n P) (box n C)
-
-abbrev pub blockedBy : List Rectangle → Point → Point → Point → Point → Bool
-blockedBy ks n q P C = anyOf (stopsBranch n q P C) ks
 
 -- an interval of the keepout has the point's coordinate
 abbrev pub besideOf : Rectangle → Point → Bool
@@ -65,7 +58,7 @@ judge a P C n b =
 unfoldable pub isBlocked : List Rectangle → Query → NodeView → NodeView → Bool
 isBlocked ks a P C =
     let n = nearestOn (P .point) (C .point) (a .point) in
-    blockedBy ks n (a .point) (P .point) (C .point)
+    blocked ks (a .point) (P .point) (C .point) n
 
 abbrev pub examineBranch : List Rectangle → Query → NodeView → NodeView → Best → Examined
 examineBranch ks a P C b =

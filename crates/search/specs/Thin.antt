@@ -11,13 +11,13 @@ use Rattle.geometry.specs.declared.Point.{Point}
 use Rattle.geometry.specs.declared.Rectangle.{Rectangle}
 use Rattle.geometry.specs.Geometry.{contains, distTo}
 use Rattle.tree.specs.Limits.{noNode}
-use Rattle.tree.specs.Search.{nearestOn}
+use Rattle.tree.specs.Search.{nearestOn, blocked}
 use Rattle.search.specs.declared.Best.{Best}
 use Rattle.search.specs.declared.Query.{Query}
 use Rattle.search.specs.declared.NodeView.{NodeView}
 use Rattle.search.specs.declared.Judged.{Judged}
 use Rattle.search.specs.declared.Examined.{Examined}
-use Rattle.search.specs.Branch.{isTaken, judge, blockedBy, Near}
+use Rattle.search.specs.Branch.{isTaken, judge, Near}
 use Rattle.tree.specs.Memory.{pointAt}
 use Rattle.search.specs.Walk.{Walk, viewAt, afterBranch}
 use Rattle.search.specs.Columns.{Has, InReach, stackOf, childrenOf}
@@ -40,7 +40,7 @@ judged a P C b = judgedAt a P C b (nearestOn (P .point) (C .point) (a .point))
 abbrev pub settled : List Rectangle → Query → NodeView → NodeView → Best → Judged → Bool → Examined
 settled ks a P C b j wanted =
     cond (j .taken || wanted)
-    (cond (blockedBy ks (j .near) (a .point) (P .point) (C .point)) (record { found = b; pushed = false }) (record { found = j .found; pushed = wanted }))
+    (cond (blocked ks (a .point) (P .point) (C .point) (j .near)) (record { found = b; pushed = false }) (record { found = j .found; pushed = wanted }))
     (record { found = b; pushed = false })
 
 -- ---- subtrees

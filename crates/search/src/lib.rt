@@ -12,9 +12,9 @@ ghost use lib.ListN.{length};
 ghost use Rattle.tree.specs.Limits.{reach};
 ghost use Rattle.geometry.specs.Laws.{Within};
 ghost use Rattle.geometry.specs.Geometry.{dist};
-ghost use Rattle.tree.specs.Search.{nearestOn};
+ghost use Rattle.tree.specs.Search.{nearestOn, stops, blocked};
 ghost use Rattle.tree.specs.Memory.{keepoutsOf};
-ghost use Rattle.search.specs.Branch.{takeIt, joinAt, keepoutAt, blockedBy, stopsBy, stopsBranch, besideOf, Near, either};
+ghost use Rattle.search.specs.Branch.{takeIt, joinAt, keepoutAt, stopsBy, besideOf, Near, either};
 ghost use Rattle.search.specs.Walk.{viewAt};
 ghost use Rattle.search.specs.Columns.{InReach, Chained, chain, TreeColumns, SafeOn, foundOn};
 ghost use Rattle.search.specs.Boxes.{boxAt, BoxRoom};
@@ -234,7 +234,7 @@ fn is_beside(k: Rectangle, n: Point) -> bool
 
 // One keepout against the branch from p to c, whose nearest point to q is n.
 fn stops_branch(k: Rectangle, n: Point, q: Point, p: Point, c: Point) -> bool
-    ensures { λ r. ⌜ r ≡ stopsBranch n q p c k ⌝ }
+    ensures { λ r. ⌜ r ≡ stops q p c n k ⌝ }
 {
     if is_beside(k, n) {
         let a = n.hull_with(q);
@@ -266,7 +266,7 @@ pub fn keepout_at(ks: &[i32], i: usize) -> Rectangle
 
 // Whether any keepout stops the branch.
 fn blocked(ks: &[i32], n: Point, q: Point, p: Point, c: Point) -> bool
-    ensures { λ r. ⌜ r ≡ blockedBy (keepoutsOf (now (ks .entry))) n q p c ⌝ }
+    ensures { λ r. ⌜ r ≡ blocked (keepoutsOf (now (ks .entry))) q p c n ⌝ }
 {
     let mut i: usize = 0;
     while i + tree::KEEPOUT_BOUNDS <= ks.len() {

@@ -3,13 +3,13 @@ use Prim.Native.Nat.{_≤_, _-_}
 use mathlib.Core.Path.{refl}
 use native.Mathlib.Omega.{arith}
 use lib.ListN.{length}
-use Rattle.search.specs.Branch.{stopsBranch}
+use Rattle.tree.specs.Search.{stops, blocked}
 use Rattle.search.proofs.Keepouts.{Scan, scan-hit, scan-next, scan-ends}
 use Rattle.search.proofs.blocked.Statement.{statement}
 use Rattle.search.proofs.blocked.Tie as tie
 
 abbrev Inv-loop : tie.InvT-loop
-Inv-loop ks n q P C i₀ i = (i ≤ length ks) × Scan (stopsBranch n q P C) ks i
+Inv-loop ks n q P C i₀ i = (i ≤ length ks) × Scan (stops q P C n) ks i
 
 abbrev μ-loop : tie.MeasureT-loop
 μ-loop ks n q P C i₀ i = length ks - i
@@ -27,6 +27,7 @@ stops-branch-requires : tie.Need-stops-branch-requires Inv-loop μ-loop
 stops-branch-requires c κs = tt
 
 returns : tie.Need-returns Inv-loop μ-loop
+unfolding blocked
 returns c = scan-hit _ _ _ (c .before .before .before .before .loop .inv .1) (c .before .before .before .loop-test .taken) _ _ (c .before .before .keepout-at .ensures) (c .before .stops-branch .ensures) (c .if1 .taken)
 
 add-i : tie.Need-add-i Inv-loop μ-loop
@@ -39,6 +40,7 @@ loop-again : tie.Need-loop-again Inv-loop μ-loop
 loop-again c = (omega arith, scan-next _ _ _ (c .before .before .before .before .loop .inv .1) (c .before .before .before .loop-test .taken) _ _ (c .before .before .keepout-at .ensures) (c .before .stops-branch .ensures) (c .if1 .left))
 
 returns-2 : tie.Need-returns-2 Inv-loop μ-loop
+unfolding blocked
 returns-2 c = scan-ends _ _ _ (c .before .loop .inv .1) (c .loop-test .left)
 
 pub blocked-spec : {M : Type 1} → statement M

@@ -1,7 +1,7 @@
 -- `search::stops_branch`: a keepout that is beside the nearest point is tested; another stops nothing.
 use mathlib.Core.Path.{sym, _∙_}
 use Rattle.search.specs.Branch.{stopsBy}
-use Rattle.search.proofs.Keepouts.{beside-not}
+use Rattle.search.proofs.Keepouts.{stops-is, beside-not}
 use borrow.Author.Needs.{needs}
 use Rattle.search.proofs.stops_branch.Statement.{statement}
 use Rattle.search.proofs.stops_branch.Tie as tie
@@ -26,6 +26,7 @@ returns c =
     let s = c .before .before .before .before .before .before in
     c .stops .ensures
     ∙ (λ i. stopsBy (s .args .k) (s .args .n) (c .before .before .before .hull-with .ensures i) (c .before .before .hull-with2 .ensures i) (c .before .hull-with3 .ensures i))
+    ∙ stops-is (s .args .k) (s .args .n) (s .args .q) (s .args .p) (s .args .c)
 
 returns-2 : tie.Need-returns-2
 returns-2 c = let s = c .before .before in beside-not _ _ (s .args .q) (s .args .p) (s .args .c) (sym (c .before .is-beside .ensures) ∙ c .if1 .left)
