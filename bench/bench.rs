@@ -21,20 +21,10 @@ use random::Random;
 use std::hint::black_box;
 use std::time::Instant;
 
-/// As crates/exports declares them; a slice is a pointer and a length.
-mod ours {
-    extern "C" {
-        pub fn ferruleslate_plan(job: *const u8, job_length: usize, out: *mut u8, out_length: usize) -> i64;
-        pub fn ferruleslate_figures(
-            job: *const u8,
-            job_length: usize,
-            allowed: *mut i32,
-            farthest: *mut u32,
-            total: *mut u32,
-            worst: *mut u32,
-        ) -> i64;
-    }
-}
+/// The C calls.
+#[allow(dead_code)]
+#[path = "../bindings/rust/src/calls.rs"]
+mod ours;
 
 const TERMINALS: usize = 120;
 const JOBS: u64 = 8;

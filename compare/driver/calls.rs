@@ -13,26 +13,9 @@ mod tree;
 use std::process::ExitCode;
 use std::sync::atomic::{AtomicU64, Ordering};
 
-/// As crates/exports declares them; a slice is a pointer and a length.
-mod ours {
-    extern "C" {
-        pub fn ferruleslate_plan(job: *const u8, job_length: usize, out: *mut u8, out_length: usize) -> i64;
-        pub fn ferruleslate_tree_bytes(
-            job: *const u8,
-            job_length: usize,
-            out: *mut u8,
-            out_length: usize,
-        ) -> i64;
-        pub fn ferruleslate_figures(
-            job: *const u8,
-            job_length: usize,
-            allowed: *mut i32,
-            farthest: *mut u32,
-            total: *mut u32,
-            worst: *mut u32,
-        ) -> i64;
-    }
-}
+/// The C calls.
+#[path = "../../bindings/rust/src/calls.rs"]
+mod ours;
 
 type Writer = unsafe extern "C" fn(*const u8, usize, *mut u8, usize) -> i64;
 

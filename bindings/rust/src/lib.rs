@@ -20,26 +20,7 @@ pub const MOST_TEXT: usize = 65_610;
 /// No tree bytes are longer: a header of 24, and 16 for each of 250 nodes.
 pub const MOST_TREE_BYTES: usize = 4_024;
 
-mod calls {
-    // A slice is a pointer and a length, as bindings/c/ferruleslate.h has it.
-    extern "C" {
-        pub fn ferruleslate_plan(job: *const u8, job_length: usize, out: *mut u8, out_length: usize) -> i64;
-        pub fn ferruleslate_tree_bytes(
-            job: *const u8,
-            job_length: usize,
-            out: *mut u8,
-            out_length: usize,
-        ) -> i64;
-        pub fn ferruleslate_figures(
-            job: *const u8,
-            job_length: usize,
-            allowed: *mut i32,
-            farthest: *mut u32,
-            total: *mut u32,
-            worst: *mut u32,
-        ) -> i64;
-    }
-}
+mod calls;
 
 /// Why a call refused: 1 to 6 of the job, 11 of the buffer.
 ///
