@@ -26,8 +26,8 @@ between a n c f g h =
     ⊎-elim (λ w. omega (arith, gap-bias a n f g, gap-bias n c g h, gap-bias a c f h))
     (λ w. omega (arith, gap-bias a n f g, gap-bias n c g h, gap-bias a c f h))
 
-total : (a b : ℕ) → (a ≤ b) ⊎ (b ≤ a)
-total a b = by-dec (decLe a b)
+le-or : (a b : ℕ) → (a ≤ b) ⊎ (b ≤ a)
+le-or a b = by-dec (decLe a b)
   where
     by-dec : Dec (a ≤ b) → (a ≤ b) ⊎ (b ≤ a)
     by-dec (yes h) = inl h
@@ -48,17 +48,17 @@ module _ (a b v : ℤ) where
   pub clip-av : gap a n + gap n v ≡ gap a v
   clip-av =
       between _ _ _ (in-a a b v) clip-K (in-c a b v)
-      (⊎-elim (λ h. inl (omega (arith, clip-is))) (λ h. inr (omega (arith, clip-is))) (total (bias (bound a b v) a) (bias (bound a b v) v)))
+      (⊎-elim (λ h. inl (omega (arith, clip-is))) (λ h. inr (omega (arith, clip-is))) (le-or (bias (bound a b v) a) (bias (bound a b v) v)))
 
   pub clip-ab : gap a n + gap n b ≡ gap a b
   clip-ab =
       between _ _ _ (in-a a b v) clip-K (in-b a b v)
-      (⊎-elim (λ h. inl (omega (arith, clip-is))) (λ h. inr (omega (arith, clip-is))) (total (bias (bound a b v) a) (bias (bound a b v) b)))
+      (⊎-elim (λ h. inl (omega (arith, clip-is))) (λ h. inr (omega (arith, clip-is))) (le-or (bias (bound a b v) a) (bias (bound a b v) b)))
 
   pub clip-bv : gap b n + gap n v ≡ gap b v
   clip-bv =
       between _ _ _ (in-b a b v) clip-K (in-c a b v)
-      (⊎-elim (λ h. inl (omega (arith, clip-is))) (λ h. inr (omega (arith, clip-is))) (total (bias (bound a b v) b) (bias (bound a b v) v)))
+      (⊎-elim (λ h. inl (omega (arith, clip-is))) (λ h. inr (omega (arith, clip-is))) (le-or (bias (bound a b v) b) (bias (bound a b v) v)))
 
 -- ---- two coordinates
 pub dist-sym : (p q : Point) → dist p q ≡ dist q p

@@ -63,17 +63,21 @@ module _ {q : Point} {k : Counts} {c : Store} (v : Standing Anything 1 q k c) wh
         })
 
 -- ---- either way
-module _ {k : Counts} {c : Store} (a : Query) (lows highs : List ℤ) (way : Way) (v : Standing (Asked way a lows highs) 2 (a .point) k c) where
-  pub by-simple : Standing Anything 1 (a .point) k c
-  by-simple = weaker v (λ h. tt) (omega arith)
+-- a way by another name
+module _ {way x : Way} (e : way ≡ x) {a : Query} {k : Counts} {c : Store} {lows highs : List ℤ} where
+  pub asked-as : Standing (Asked way a lows highs) 2 (a .point) k c → Standing (Asked x a lows highs) 2 (a .point) k c
+  asked-as v = subst (λ (y : Way). Standing (Asked y a lows highs) 2 (a .point) k c) e v
 
-  pub did-by-simple : way ≡ Simple → (ks : List ℤ) (r : Counts) (c′ : Store) (lows′ highs′ : List ℤ) → InsertedSimple (a .point) k c r c′ → Covered way ks a k c lows highs r c′ lows′ highs′
-  did-by-simple e ks r c′ lows′ highs′ o =
-      subst (λ (x : Way). Covered x ks a k c lows highs r c′ lows′ highs′) (sym e)
-      (record { inserted = record { stores = λ t f h s. o .stores t f tt s; sized = o .sized }; covers = λ t f h s w. tt })
+  pub covered-as : {ks : List ℤ} {r : Counts} {c′ : Store} {lows′ highs′ : List ℤ} → Covered x ks a k c lows highs r c′ lows′ highs′ → Covered way ks a k c lows highs r c′ lows′ highs′
+  covered-as {ks} {r} {c′} {lows′} {highs′} o = subst (λ (y : Way). Covered y ks a k c lows highs r c′ lows′ highs′) (sym e) o
 
-  pub as-search : way ≡ Search → Standing (Asked Search a lows highs) 2 (a .point) k c
-  as-search e = subst (λ (x : Way). Standing (Asked x a lows highs) 2 (a .point) k c) e v
+-- at the closest node no box is asked for
+module _ {a : Query} {k : Counts} {c : Store} {lows highs : List ℤ} where
+  pub by-simple : {way : Way} → Standing (Asked way a lows highs) 2 (a .point) k c → Standing Anything 1 (a .point) k c
+  by-simple v = weaker v (λ h. tt) (omega arith)
+
+  pub did-by-simple : {ks : List ℤ} {r : Counts} {c′ : Store} {lows′ highs′ : List ℤ} → InsertedSimple (a .point) k c r c′ → Covered Simple ks a k c lows highs r c′ lows′ highs′
+  did-by-simple o = record { inserted = record { stores = λ t f h s. o .stores t f tt s; sized = o .sized }; covers = λ t f h s w. tt }
 
 -- ---- by the search
 module _ {k : Counts} {c : Store} (a : Query) (lows highs : List ℤ) (v : Standing (Asked Search a lows highs) 2 (a .point) k c) (w : ℕ) (ew : w ≡ k .nodes) where
@@ -108,15 +112,13 @@ module _ {k : Counts} {c : Store} (a : Query) (lows highs : List ℤ) (v : Stand
     pub may-join : Standing (At j) (newNodes (joinOf j)) (a .point) k c
     may-join = weaker v (λ h. fits (v .tree) (v .formed) (h .query) (v .stores)) (most (joinOf j))
 
-    pub did-search : (way : Way) → way ≡ Search → (r : Counts) (c′ : Store) (lows′ highs′ : List ℤ) → JoinedUnder j (a .point) k c lows highs r c′ lows′ highs′
-        → Covered way ks a k c lows highs r c′ lows′ highs′
+    pub did-search : (r : Counts) (c′ : Store) (lows′ highs′ : List ℤ) → JoinedUnder j (a .point) k c lows highs r c′ lows′ highs′ → Covered Search ks a k c lows highs r c′ lows′ highs′
     unfolding insert
-    did-search way e r c′ lows′ highs′ o =
-        subst (λ (x : Way). Covered x ks a k c lows highs r c′ lows′ highs′) (sym e)
-        (record {
+    did-search r c′ lows′ highs′ o =
+        record {
           inserted = record {
             stores = λ t f h s. subst (λ (x : T.Join). Stores (TR.join t (a .point) x) r c′) (sym (found-is t f h s)) (o .joined .stores t f (fits t f h s) s);
             sized = o .joined .sized;
           };
           covers = λ t f h s b. subst (λ (x : T.Join). Covers (TR.join t (a .point) x .nodes) lows′ highs′) (sym (found-is t f h s)) (o .covers t f (fits t f h s) s b);
-        })
+        }

@@ -19,7 +19,7 @@ use Rattle.tree.proofs.Forming.{formed-insert, formed-simple, formed-start, cou
 use Rattle.search.specs.declared.Query.{Query}
 use Rattle.tree.specs.Memory.{pointAt, keepoutsOf}
 use Rattle.search.specs.Columns.{Chain}
-use Rattle.search.specs.Boxes.{Covers}
+use Rattle.search.specs.Boxes.{Covers, BoxRoom}
 use Rattle.joining.specs.declared.Counts.{Counts}
 use Rattle.joining.specs.declared.Row.{Row}
 use Rattle.joining.specs.Store.{setRow, Rows, Store, columnsOf, rowAt, nodeFrom, parentFrom, nodesOf, upTo, SizedStore, SizedRows, Keeps, Backs}
@@ -30,7 +30,7 @@ use Rattle.joining.proofs.Reading.{sized-columns, nodes-are}
 use Rattle.inserting.specs.declared.Way.{Way}
 use Rattle.inserting.specs.declared.Way.the-variants.{Simple, Search}
 use Rattle.inserting.specs.Insert.{Inserted, stepOf, CoveredFor, SummedFor, Asked, Covered}
-use Rattle.inserting.specs.Route.{sourceRow, firsts, treeAfter, treeIn, queryAt, Routable, Holds, RoutedColumns}
+use Rattle.inserting.specs.Route.{sourceRow, firstCounts, firsts, treeAfter, treeIn, queryAt, Routable, Holds, SourceAlone, RoutedColumns}
 
 -- ---- what holds before the loop, and at its head
 -- the source alone
@@ -130,7 +130,7 @@ module _ (s : Point) (allowed : ℤ) (w limit : ℕ) (m : ℕ) (c c′ : Store) 
       }
 
 -- ---- the loop
-module _ (way : Way) (ks px py : List ℤ) (a : Query) (c₀ : Store) (v : Routable px py a c₀) where
+module _ (px py : List ℤ) (a : Query) (c₀ : Store) (v : Routable px py a c₀) where
   abbrev m : ℕ
   m = length (c₀ .links .prev)
 
@@ -140,15 +140,23 @@ module _ (way : Way) (ks px py : List ℤ) (a : Query) (c₀ : Store) (v : Routa
   wide-enough : 2 * length px + 1 ≤ m
   wide-enough = omega (arith, v .room, v .sized .links .prev)
 
-  pub starts : (c : Store) → Begun c₀ (a .point) c → (lows highs : List ℤ) → Covers (rooted (a .point) (pos 0) 0 0 .nodes) lows highs
-      → Under m lows highs way ks px py a 0 (record { nodes = 1; steiner = record { 0 = 1 }; terminal = record { 0 = 1 } }) c lows highs
-  unfolding treeAfter upTo inserts
-  starts c b lows highs v₀ =
-      record {
-        low = omega arith;
-        next = refl;
-        sized = sized-start (a .point) (a .allowed) 0 (a .limit) m c₀ c z₀ (omega (arith, wide-enough)) b;
-        holds = λ w. record {
+  -- before it, when the source is stored
+  module _ (c : Store) (b : Begun c₀ (a .point) c) where
+    still-routable : Routable px py a c
+    still-routable =
+        let z = sized-start (a .point) (a .allowed) 0 (a .limit) m c₀ c z₀ (omega (arith, wide-enough)) b in
+        record {
+          sized = subst (λ (n : ℕ). SizedStore n c) (sym (z .rows .xs)) z;
+          room = omega (arith, wide-enough, z .rows .xs);
+          few = v .few;
+          both = v .both;
+          source = v .source;
+          near = v .near;
+        }
+
+    alone : SourceAlone a c
+    alone w =
+        record {
           formed = formed-start (a .point) (v .source) (a .allowed) w (a .limit);
           counted = counted-start (a .point) (v .source) (a .allowed) w (a .limit);
           stores = record {
@@ -160,86 +168,99 @@ module _ (way : Way) (ks px py : List ℤ) (a : Query) (c₀ : Store) (v : Routa
           };
           query = record { limit = refl; allowed = refl };
           farthest = refl;
-        };
-        as-lows = refl;
-        as-highs = refl;
-        covers = λ w. covered way w;
-      }
-    where
-      covered : (x : Way) (w : ℕ) → CoveredFor x lows highs (rooted (a .point) (a .allowed) w (a .limit))
-      covered Simple w = tt
-      covered Search w = v₀
+        }
 
-  module _ (lows₀ highs₀ : List ℤ) (i : ℕ) (k : Counts) (c : Store) (lows highs : List ℤ) (u : Under m lows₀ highs₀ way ks px py a i k c lows highs) where
-    -- each terminal brought at most two nodes
-    nodes-low : k .nodes ≤ 2 * i + 1
-    nodes-low = let h = u .holds 0 in omega (arith, h .counted .size, h .counted .steiners, h .stores .size, h .stores .terminal, u .next)
+    pub may-insert : (lows highs : List ℤ) → BoxRoom (length (c .rows .xs)) lows highs → Routable px py a c × (BoxRoom (length (c .rows .xs)) lows highs × SourceAlone a c)
+    may-insert lows highs room = (still-routable, (room, alone))
 
-    pub ends : i ≡ length px → RoutedColumns way ks px py a k c
-    ends e =
-        let holds = subst (λ (n : ℕ). (w : ℕ) → Holds a w k c (treeAfter way ks px py a w n)) e (u .holds) in
+  module _ (way : Way) (ks : List ℤ) where
+    pub starts : SourceAlone a c₀ → (k : Counts) → k ≡ firstCounts → {lows highs : List ℤ} → Covers (rooted (a .point) (pos 0) 0 0 .nodes) lows highs → Under m lows highs way ks px py a 0 k c₀ lows highs
+    unfolding treeAfter upTo inserts
+    starts holds k e {lows} {highs} covers =
         record {
-          tree = λ w. whole w (treeAfter way ks px py a w (length px)) (holds w);
-          holds = holds;
-          next = u .next ∙ ap (λ (n : ℕ). n + 1) e;
-          sized = subst (λ (n : ℕ). SizedStore n c) (sym (u .sized .rows .xs)) (u .sized);
+          low = omega arith;
+          next = ap (λ (x : Counts). x .terminal .0) e;
+          sized = z₀;
+          as-lows = refl;
+          as-highs = refl;
+          holds = λ w. subst (λ (x : Counts). Holds a w x c₀ (rooted (a .point) (a .allowed) w (a .limit))) (sym e) (holds w);
+          covers = λ w. covered way w;
         }
       where
-        whole : (w : ℕ) (t : Tree) → Holds a w k c t → treeIn c k a w ≡ t
-        whole w t h =
-            let nodes : nodesOf (columnsOf c) (k .nodes) ≡ t .nodes = ap (nodesOf (columnsOf c)) (sym (h .stores .size))
-            ∙ nodes-are t (h .formed) (omega (arith, h .stores .size, nodes-low, v .few, u .low)) m (columnsOf c) (sized-columns (u .sized)) (h .stores .keeps) (omega (arith, h .stores .size, nodes-low, u .low, wide-enough)) in
-            λ j. record {
-              nodes = nodes j;
-              allowed = sym (h .query .allowed) j;
-              farthest = sym (h .farthest) j;
-              limit = sym (h .query .limit) j;
-              nextSteiner = sym (h .stores .steiner) j;
-              nextTerminal = sym (h .stores .terminal) j;
-            }
+        covered : (x : Way) (w : ℕ) → CoveredFor x lows highs (rooted (a .point) (a .allowed) w (a .limit))
+        covered Simple w = tt
+        covered Search w = covers
 
-    module _ (more : i < length px) (b : Query) (eb : b ≡ queryAt px py i a) where
-      pub stands : Standing (Asked way b lows highs) 2 (b .point) k c
-      stands =
-          let h = u .holds 0 in
-          subst (λ (x : Query). Standing (Asked way x lows highs) 2 (x .point) k c) (sym eb)
-          (record {
-            tree = treeAfter way ks px py a 0 i;
-            formed = h .formed;
-            stores = h .stores;
-            when = record { query = record { limit = h .query .limit; allowed = h .query .allowed }; covers = u .covers 0; sums = sums-tree way ks px py a 0 i };
-            sized = subst (λ (n : ℕ). SizedStore n c) (sym (u .sized .rows .xs)) (u .sized);
-            room = omega (arith, nodes-low, wide-enough, u .sized .rows .xs);
-            small = omega (arith, nodes-low, v .few);
-            steiner = omega (arith, h .counted .steiners, h .stores .steiner, h .stores .terminal, u .next, v .few);
-            within = v .near i more;
-          })
+    module _ (lows₀ highs₀ : List ℤ) (i : ℕ) (k : Counts) (c : Store) (lows highs : List ℤ) (u : Under m lows₀ highs₀ way ks px py a i k c lows highs) where
+      -- each terminal brought at most two nodes
+      nodes-low : k .nodes ≤ 2 * i + 1
+      nodes-low = let h = u .holds 0 in omega (arith, h .counted .size, h .counted .steiners, h .stores .size, h .stores .terminal, u .next)
 
-      pub turn : (r : Counts) (c′ : Store) (lows′ highs′ : List ℤ) → length lows′ ≡ length lows → length highs′ ≡ length highs
-          → Covered way ks b k c lows highs r c′ lows′ highs′ → Under m lows₀ highs₀ way ks px py a (i + 1) r c′ lows′ highs′
-      turn r c′ lows′ highs′ el eh o₀ =
-          let d : Covered way ks (queryAt px py i a) k c lows highs r c′ lows′ highs′ = subst (λ (x : Query). Covered way ks x k c lows highs r c′ lows′ highs′) eb o₀ in
-          let o = d .inserted in
+      pub ends : i ≡ length px → RoutedColumns way ks px py a k c
+      ends e =
+          let holds = subst (λ (n : ℕ). (w : ℕ) → Holds a w k c (treeAfter way ks px py a w n)) e (u .holds) in
           record {
-            low = omega arith;
-            next = omega (arith, o .stores (treeAfter way ks px py a 0 i) (u .holds 0 .formed) (record { limit = u .holds 0 .query .limit; allowed = u .holds 0 .query .allowed }) (u .holds 0 .stores) .terminal, carried-step way ks (treeAfter way ks px py a 0 i) (pointAt px py i) .next, u .holds 0 .stores .terminal, u .next);
-            sized = subst (λ (n : ℕ). SizedStore n c′) (u .sized .rows .xs) (o .sized);
-            as-lows = el ∙ u .as-lows;
-            as-highs = eh ∙ u .as-highs;
-            holds = λ w. subst (Holds a w r c′) (sym (tree-next way ks px py a w i)) (after (treeAfter way ks px py a w i) w (u .holds w) o);
-            covers = λ w.
-                let h = u .holds w in
-                subst (CoveredFor way lows′ highs′) (sym (tree-next way ks px py a w i))
-                (d .covers (treeAfter way ks px py a w i) (h .formed) (record { limit = h .query .limit; allowed = h .query .allowed }) (h .stores) (u .covers w));
+            tree = λ w. whole w (treeAfter way ks px py a w (length px)) (holds w);
+            holds = holds;
+            next = u .next ∙ ap (λ (n : ℕ). n + 1) e;
+            sized = subst (λ (n : ℕ). SizedStore n c) (sym (u .sized .rows .xs)) (u .sized);
           }
         where
-          after : (t : Tree) (w : ℕ) → Holds a w k c t → Inserted way ks (queryAt px py i a) k c r c′ → Holds a w r c′ (stepOf way ks t (pointAt px py i))
-          after t w h o =
-              let same = carried-step way ks t (pointAt px py i) in
-              record {
-                formed = formed-step way ks t (pointAt px py i) (h .formed) (v .near i more);
-                counted = counted-step way ks t (pointAt px py i) (h .formed) (h .counted);
-                stores = o .stores t (h .formed) (record { limit = h .query .limit; allowed = h .query .allowed }) (h .stores);
-                query = record { limit = same .limit ∙ h .query .limit; allowed = same .allowed ∙ h .query .allowed };
-                farthest = same .farthest ∙ h .farthest;
+          whole : (w : ℕ) (t : Tree) → Holds a w k c t → treeIn c k a w ≡ t
+          whole w t h =
+              let nodes : nodesOf (columnsOf c) (k .nodes) ≡ t .nodes = ap (nodesOf (columnsOf c)) (sym (h .stores .size))
+              ∙ nodes-are t (h .formed) (omega (arith, h .stores .size, nodes-low, v .few, u .low)) m (columnsOf c) (sized-columns (u .sized)) (h .stores .keeps) (omega (arith, h .stores .size, nodes-low, u .low, wide-enough)) in
+              λ j. record {
+                nodes = nodes j;
+                allowed = sym (h .query .allowed) j;
+                farthest = sym (h .farthest) j;
+                limit = sym (h .query .limit) j;
+                nextSteiner = sym (h .stores .steiner) j;
+                nextTerminal = sym (h .stores .terminal) j;
               }
+
+      module _ (more : i < length px) (b : Query) (eb : b ≡ queryAt px py i a) where
+        pub stands : Standing (Asked way b lows highs) 2 (b .point) k c
+        stands =
+            let h = u .holds 0 in
+            subst (λ (x : Query). Standing (Asked way x lows highs) 2 (x .point) k c) (sym eb)
+            (record {
+              tree = treeAfter way ks px py a 0 i;
+              formed = h .formed;
+              stores = h .stores;
+              when = record { query = record { limit = h .query .limit; allowed = h .query .allowed }; covers = u .covers 0; sums = sums-tree way ks px py a 0 i };
+              sized = subst (λ (n : ℕ). SizedStore n c) (sym (u .sized .rows .xs)) (u .sized);
+              room = omega (arith, nodes-low, wide-enough, u .sized .rows .xs);
+              small = omega (arith, nodes-low, v .few);
+              steiner = omega (arith, h .counted .steiners, h .stores .steiner, h .stores .terminal, u .next, v .few);
+              within = v .near i more;
+            })
+
+        pub turn : (r : Counts) (c′ : Store) (lows′ highs′ : List ℤ) → length lows′ ≡ length lows → length highs′ ≡ length highs
+            → Covered way ks b k c lows highs r c′ lows′ highs′ → Under m lows₀ highs₀ way ks px py a (i + 1) r c′ lows′ highs′
+        turn r c′ lows′ highs′ el eh o₀ =
+            let d : Covered way ks (queryAt px py i a) k c lows highs r c′ lows′ highs′ = subst (λ (x : Query). Covered way ks x k c lows highs r c′ lows′ highs′) eb o₀ in
+            let o = d .inserted in
+            record {
+              low = omega arith;
+              next = omega (arith, o .stores (treeAfter way ks px py a 0 i) (u .holds 0 .formed) (record { limit = u .holds 0 .query .limit; allowed = u .holds 0 .query .allowed }) (u .holds 0 .stores) .terminal, carried-step way ks (treeAfter way ks px py a 0 i) (pointAt px py i) .next, u .holds 0 .stores .terminal, u .next);
+              sized = subst (λ (n : ℕ). SizedStore n c′) (u .sized .rows .xs) (o .sized);
+              as-lows = el ∙ u .as-lows;
+              as-highs = eh ∙ u .as-highs;
+              holds = λ w. subst (Holds a w r c′) (sym (tree-next way ks px py a w i)) (after (treeAfter way ks px py a w i) w (u .holds w) o);
+              covers = λ w.
+                  let h = u .holds w in
+                  subst (CoveredFor way lows′ highs′) (sym (tree-next way ks px py a w i))
+                  (d .covers (treeAfter way ks px py a w i) (h .formed) (record { limit = h .query .limit; allowed = h .query .allowed }) (h .stores) (u .covers w));
+            }
+          where
+            after : (t : Tree) (w : ℕ) → Holds a w k c t → Inserted way ks (queryAt px py i a) k c r c′ → Holds a w r c′ (stepOf way ks t (pointAt px py i))
+            after t w h o =
+                let same = carried-step way ks t (pointAt px py i) in
+                record {
+                  formed = formed-step way ks t (pointAt px py i) (h .formed) (v .near i more);
+                  counted = counted-step way ks t (pointAt px py i) (h .formed) (h .counted);
+                  stores = o .stores t (h .formed) (record { limit = h .query .limit; allowed = h .query .allowed }) (h .stores);
+                  query = record { limit = same .limit ∙ h .query .limit; allowed = same .allowed ∙ h .query .allowed };
+                  farthest = same .farthest ∙ h .farthest;
+                }

@@ -24,6 +24,10 @@ use Rattle.inserting.specs.Insert.{QueryOf, stepOf}
 abbrev pub sourceRow : Point → Row
 sourceRow s = record { point = s; path = 0; parent = nodeIndex noNode; kind = 0; number = 0 }
 
+-- the counts of a source alone
+abbrev pub firstCounts : Counts
+firstCounts = record { nodes = 1; steiner = record { 0 = 1 }; terminal = record { 0 = 1 } }
+
 -- the first i terminals
 abbrev pub firsts : List ℤ → List ℤ → ℕ → List Point
 firsts px py i = upTo (pointAt px py) i
@@ -56,6 +60,10 @@ pub record Holds (a : Query) (w : ℕ) (k : Counts) (c : Store) (t : Tree) : Typ
   pub stores : Stores t k c
   pub query : QueryOf a t
   pub farthest : t .farthest ≡ w
+
+-- the columns hold the source alone, whatever the farthest distance
+abbrev pub SourceAlone : Query → Store → Type 0
+SourceAlone a c = (w : ℕ) → Holds a w firstCounts c (rooted (a .point) (a .allowed) w (a .limit))
 
 -- all terminals are in: the columns and counts give the whole tree, which is well formed
 pub record RoutedColumns (way : Way) (ks px py : List ℤ) (a : Query) (k : Counts) (c : Store) : Type 0 where

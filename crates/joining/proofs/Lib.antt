@@ -7,6 +7,7 @@ pub mod Attaching
 pub mod Between
 pub mod Splitting
 pub mod Rowing
+pub mod Names
 pub mod Reading
 pub mod Growing
 pub mod Placing

@@ -86,11 +86,16 @@ module _ {W : Tree → Type 0} {more : ℕ} {q : Point} {k : Counts} {c : Store}
           backed = backed-of (v .tree) (v .formed) few _ (columnsOf c) (sized-columns (v .sized)) (v .stores .keeps) (omega (arith, v .stores .size, v .room)) (c .links .next) (v .stores .backs) p in-start;
         }
 
--- ---- at a node
-module _ {j : Join} {q : Point} {k : Counts} {c : Store} (v₀ : Standing (At j) (newNodes (joinOf j)) q k c) (p : ℕ) (e : j ≡ Onto (nodeIndex p)) where
-  v : Standing (At (Onto (nodeIndex p))) 1 q k c
-  v = subst (λ (x : Join). Standing (At x) (newNodes (joinOf x)) q k c) e v₀
+-- ---- the place, by another name
+module _ {j j′ : Join} (e : j ≡ j′) (q : Point) {k : Counts} {c : Store} where
+  pub stands-at : Standing (At j) (newNodes (joinOf j)) q k c → Standing (At j′) (newNodes (joinOf j′)) q k c
+  stands-at v = subst (λ (x : Join). Standing (At x) (newNodes (joinOf x)) q k c) e v
 
+  pub joined-at : {r : Counts} {c′ : Store} → Joined j′ q k c r c′ → Joined j q k c r c′
+  joined-at {r} {c′} o = subst (λ (x : Join). Joined x q k c r c′) (sym e) o
+
+-- ---- at a node
+module _ {q : Point} {k : Counts} {c : Store} (p : ℕ) (v : Standing (At (Onto (nodeIndex p))) 1 q k c) where
   pub next-onto : (k .nodes < noNode) × (k .terminal .0 < noNode)
   next-onto = next-counts v (omega arith)
 
@@ -101,23 +106,19 @@ module _ {j : Join} {q : Point} {k : Counts} {c : Store} (v₀ : Standing (At j)
     pub may-onto : Attachable c (k .nodes) (row .parent .0)
     may-onto = subst (λ (x : Row). Attachable c (k .nodes) (x .parent .0)) (sym er) (may-attach v (omega arith) p (v .when))
 
-    pub did-onto : (c′ : Store) → RowAttached c (k .nodes) row c′ → (r : Counts) → r ≡ oneMore k → Joined j q k c r c′
+    pub did-onto : (c′ : Store) → RowAttached c (k .nodes) row c′ → (r : Counts) → r ≡ oneMore k → Joined (Onto (nodeIndex p)) q k c r c′
     unfolding joined
     did-onto c′ o₀ r ek =
         let o : RowAttached c (k .nodes) (terminalRow p q (pathBelow (viewIn (c .rows) p) q) (k .terminal .0)) c′ = subst (λ (x : Row). RowAttached c (k .nodes) x c′) er o₀ in
-        subst (λ (x : Join). Joined x q k c r c′) (sym e)
-        (subst (λ (x : Counts). Joined (Onto (nodeIndex p)) q k c x c′) (sym ek)
+        subst (λ (x : Counts). Joined (Onto (nodeIndex p)) q k c x c′) (sym ek)
         (record {
           stores = λ t f h s. stores-terminal t f k c s _ (v .sized) (omega (arith, v .room)) p h q _ _ (path-below t f k c s _ (v .sized) p h q) c′ o;
           sized = sized-terminal (v .tree) (v .formed) k c (v .stores) _ (v .sized) (omega (arith, v .room)) p (v .when) q _ _
               (path-below (v .tree) (v .formed) k c (v .stores) _ (v .sized) p (v .when) q) c′ o;
-        }))
+        })
 
 -- ---- on a branch
-module _ {j : Join} {q : Point} {k : Counts} {c : Store} (v₀ : Standing (At j) (newNodes (joinOf j)) q k c) (p d : ℕ) (e : j ≡ Split (nodeIndex p) (nodeIndex d)) where
-  u : Standing (At (Split (nodeIndex p) (nodeIndex d))) 2 q k c
-  u = subst (λ (x : Join). Standing (At x) (newNodes (joinOf x)) q k c) e v₀
-
+module _ {q : Point} {k : Counts} {c : Store} (p d : ℕ) (u : Standing (At (Split (nodeIndex p) (nodeIndex d))) 2 q k c) where
   pub may-split : Splittable c k p d q
   may-split =
       record {
@@ -135,11 +136,10 @@ module _ {j : Join} {q : Point} {k : Counts} {c : Store} (v₀ : Standing (At j)
   pub next-split : (k .nodes + 1 < noNode) × ((k .steiner .0 < noNode) × (k .terminal .0 < noNode))
   next-split = (omega (arith, u .room, u .sized .links .few), (u .steiner, next-counts u (omega arith) .1))
 
-  pub did-split : (c′ : Store) → BranchSplit c k p d q c′ → (r : Counts) → r ≡ twoMore k → Joined j q k c r c′
+  pub did-split : (c′ : Store) → BranchSplit c k p d q c′ → (r : Counts) → r ≡ twoMore k → Joined (Split (nodeIndex p) (nodeIndex d)) q k c r c′
   did-split c′ o r ek =
-      subst (λ (x : Join). Joined x q k c r c′) (sym e)
-      (subst (λ (x : Counts). Joined (Split (nodeIndex p) (nodeIndex d)) q k c x c′) (sym ek)
+      subst (λ (x : Counts). Joined (Split (nodeIndex p) (nodeIndex d)) q k c x c′) (sym ek)
       (record {
         stores = λ t f h s. stores-split t f k c s _ (u .sized) (omega (arith, u .room)) p d h q c′ o;
         sized = sized-split-in (u .tree) (u .formed) k c (u .stores) _ (u .sized) (omega (arith, u .room)) p d (u .when) q c′ o;
-      }))
+      })

@@ -285,7 +285,7 @@ pub fn attach(
     append_child(last, prev, next, p, n);
 }
 
-// A terminal at q joins on the branch from p to c.
+// The rows and links of a terminal at q on the branch from p to c.
 fn split_branch(
     xs: &mut [i32],
     ys: &mut [i32],
@@ -338,6 +338,68 @@ fn two_more(k: Counts) -> Counts
     }
 }
 
+// A terminal at q joins below the node p.
+fn join_onto(
+    xs: &mut [i32],
+    ys: &mut [i32],
+    path: &mut [u32],
+    parent: &mut [u16],
+    kind: &mut [u8],
+    number: &mut [u16],
+    last: &mut [u16],
+    prev: &mut [u16],
+    next: &mut [u16],
+    k: Counts,
+    p: NodeIndex,
+    q: Point,
+) -> Counts
+    requires { ⌜ Standing (At (Join.Onto p)) 1 q k (store (rowsOf (now xs) (now ys) (now path) (now parent) (now kind) (now number)) (links (now last) (now prev) (now next))) ⌝ }
+    ensures { λ r. ⌜ Joined (Join.Onto p) q k (store (rowsOf (now (xs .entry)) (now (ys .entry)) (now (path .entry)) (now (parent .entry)) (now (kind .entry)) (now (number .entry))) (links (now (last .entry)) (now (prev .entry)) (now (next .entry)))) r (store (rowsOf (now (xs .exit)) (now (ys .exit)) (now (path .exit)) (now (parent .exit)) (now (kind .exit)) (now (number .exit))) (links (now (last .exit)) (now (prev .exit)) (now (next .exit)))) ⌝ }
+{
+    let n = NodeIndex(k.nodes);
+    let te = k.terminal;
+    let row = terminal_row(xs, ys, path, p, q, te);
+    attach(xs, ys, path, parent, kind, number, last, prev, next, n, row);
+    one_more(k)
+}
+
+// A terminal at q joins on the branch from p to c.
+fn join_between(
+    xs: &mut [i32],
+    ys: &mut [i32],
+    path: &mut [u32],
+    parent: &mut [u16],
+    kind: &mut [u8],
+    number: &mut [u16],
+    last: &mut [u16],
+    prev: &mut [u16],
+    next: &mut [u16],
+    k: Counts,
+    p: NodeIndex,
+    c: NodeIndex,
+    q: Point,
+) -> Counts
+    requires { ⌜ Standing (At (Join.Split p c)) 2 q k (store (rowsOf (now xs) (now ys) (now path) (now parent) (now kind) (now number)) (links (now last) (now prev) (now next))) ⌝ }
+    ensures { λ r. ⌜ Joined (Join.Split p c) q k (store (rowsOf (now (xs .entry)) (now (ys .entry)) (now (path .entry)) (now (parent .entry)) (now (kind .entry)) (now (number .entry))) (links (now (last .entry)) (now (prev .entry)) (now (next .entry)))) r (store (rowsOf (now (xs .exit)) (now (ys .exit)) (now (path .exit)) (now (parent .exit)) (now (kind .exit)) (now (number .exit))) (links (now (last .exit)) (now (prev .exit)) (now (next .exit)))) ⌝ }
+{
+    split_branch(
+        xs,
+        ys,
+        path,
+        parent,
+        kind,
+        number,
+        last,
+        prev,
+        next,
+        k,
+        p,
+        c,
+        q,
+    );
+    two_more(k)
+}
+
 // A terminal at q joins at a place in the tree.
 pub fn join(
     xs: &mut [i32],
@@ -356,31 +418,35 @@ pub fn join(
     requires { ⌜ Standing (At j) (newNodes (joinOf j)) q k (store (rowsOf (now xs) (now ys) (now path) (now parent) (now kind) (now number)) (links (now last) (now prev) (now next))) ⌝ }
     ensures { λ r. ⌜ Joined j q k (store (rowsOf (now (xs .entry)) (now (ys .entry)) (now (path .entry)) (now (parent .entry)) (now (kind .entry)) (now (number .entry))) (links (now (last .entry)) (now (prev .entry)) (now (next .entry)))) r (store (rowsOf (now (xs .exit)) (now (ys .exit)) (now (path .exit)) (now (parent .exit)) (now (kind .exit)) (now (number .exit))) (links (now (last .exit)) (now (prev .exit)) (now (next .exit)))) ⌝ }
 {
-    let n = NodeIndex(k.nodes);
-    let te = k.terminal;
     match j {
-        Join::Onto(p) => {
-            let row = terminal_row(xs, ys, path, p, q, te);
-            attach(xs, ys, path, parent, kind, number, last, prev, next, n, row);
-            one_more(k)
-        }
-        Join::Split(p, c) => {
-            split_branch(
-                xs,
-                ys,
-                path,
-                parent,
-                kind,
-                number,
-                last,
-                prev,
-                next,
-                k,
-                p,
-                c,
-                q,
-            );
-            two_more(k)
-        }
+        Join::Onto(p) => join_onto(
+            xs,
+            ys,
+            path,
+            parent,
+            kind,
+            number,
+            last,
+            prev,
+            next,
+            k,
+            p,
+            q,
+        ),
+        Join::Split(p, c) => join_between(
+            xs,
+            ys,
+            path,
+            parent,
+            kind,
+            number,
+            last,
+            prev,
+            next,
+            k,
+            p,
+            c,
+            q,
+        ),
     }
 }

@@ -1,10 +1,9 @@
 -- A node's kind as it is read, and the nodes of a kind one node further.
-use mathlib.Core.Path.{_≡_, refl, ap, sym, _∙_}
+use mathlib.Core.Path.{_≡_, ap, sym, _∙_}
 use mathlib.Core.Bool.{Bool}
 use mathlib.Core.List.{List, [], _∷_, _++_, append-nil}
-use Prim.Native.Nat.{ℕ, zero, suc, _+_, _<_}
+use Prim.Native.Nat.{ℕ, _+_, _<_}
 use native.Mathlib.Numerals.{add-one}
-use native.Mathlib.Omega.{arith}
 use lib.ListN.{getD}
 use lib.Dec.{eqb}
 use borrow.Author.Tests.{eq-eqb, ne-eqb}
@@ -12,20 +11,6 @@ use Rattle.tree.specs.Tree.{Node, nodeAt}
 use Rattle.tree.specs.Measures.{kindOf, those}
 use Rattle.joining.specs.Store.{Columns, nameFrom}
 use Rattle.measures.proofs.Lent.{Read}
-
-pub kind-source : (k n : ℕ) → k ≡ 0 → 0 ≡ kindOf (nameFrom k n)
-kind-source zero n h = refl
-kind-source (suc k) n h = absurd (omega arith)
-
-pub kind-steiner : (k n : ℕ) → k ≡ 1 → 1 ≡ kindOf (nameFrom k n)
-kind-steiner zero n h = absurd (omega arith)
-kind-steiner (suc zero) n h = refl
-kind-steiner (suc (suc k)) n h = absurd (omega arith)
-
-pub kind-terminal : (k n : ℕ) → (k ≡ 0 → ⊥) → (k ≡ 1 → ⊥) → 2 ≡ kindOf (nameFrom k n)
-kind-terminal zero n f g = absurd (f refl)
-kind-terminal (suc zero) n f g = absurd (g refl)
-kind-terminal (suc (suc k)) n f g = refl
 
 module _ {ns : List Node} {c : Columns} {n : ℕ} (v : Read ns c n) (i : ℕ) (h : i < n) where
   pub kind-read : {r : ℕ} → ((k : ℕ) → r ≡ kindOf (nameFrom (getD (c .rows .kind) i 0) k)) → r ≡ kindOf (nodeAt ns i .name)

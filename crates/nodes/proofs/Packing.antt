@@ -1,22 +1,16 @@
 -- The loop that packs rows into nodes: its start, a turn, its end. The nodes before i are the rows'.
-use Prim.Native.Nat.{ℕ, zero, suc, _+_, _<_}
-use mathlib.Core.Path.{_≡_, refl, sym, ap, _∙_}
+use Prim.Native.Nat.{ℕ, _+_, _<_}
+use mathlib.Core.Path.{_≡_, sym, ap, _∙_}
 use mathlib.Core.List.{List}
 use native.Mathlib.Decide.{ℕ-discrete}
 use native.Mathlib.Omega.{arith}
 use lib.ListN.{length, getD, set, replicate, length-set, length-replicate}
 use lib.Seq.{getD-set-same, getD-set-other}
 use Rattle.tree.specs.Limits.{mostNodes}
-use Rattle.tree.specs.Tree.{terminal}
 use Rattle.tree.specs.declared.RoutingNode.{RoutingNode}
 use Rattle.tree.specs.Memory.{nodeIn}
-use Rattle.joining.specs.Store.{Rows, rowAt, nameFrom, nodeFrom}
+use Rattle.joining.specs.Store.{Rows, rowAt, nodeFrom}
 use Rattle.nodes.specs.Nodes.{blankNode, Packs}
-
-pub name-terminal : (k n : ℕ) → (k ≡ 0 → ⊥) → (k ≡ 1 → ⊥) → terminal n ≡ nameFrom k n
-name-terminal zero n f g = absurd (f refl)
-name-terminal (suc zero) n f g = absurd (g refl)
-name-terminal (suc (suc k)) n f g = refl
 
 pub packs-none : (r : Rows) (nodes : List RoutingNode) → nodes ≡ replicate mostNodes blankNode → Packs r 0 nodes
 packs-none r nodes e = record { size = ap length e ∙ length-replicate mostNodes blankNode; is = λ i h. absurd (omega arith) }

@@ -75,10 +75,7 @@ fn node_at<'a>(
 {
     let n = name_of(kind[i], number[i]);
     let p = parent_of(parent[i]);
-    let pt = Point {
-        xcoord: xs[i],
-        ycoord: ys[i],
-    };
+    let pt = tree::point_at(xs, ys, i);
     RoutingNode {
         name: n,
         parent: p,

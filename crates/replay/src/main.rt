@@ -9,7 +9,8 @@ ghost use mathlib.Core.Path.{_≡_};
 ghost use Prim.Native.Nat.{_+_, _<_, _≤_};
 ghost use lib.ListN.{length};
 ghost use Rattle.global_router.specs.Stored.{Stored};
-ghost use Rattle.script.specs.Runs.{CountsFirst, Runs};
+ghost use Rattle.io.specs.Counts.{Counts};
+ghost use Rattle.script.specs.Runs.{Runs};
 ghost use Rattle.replay.specs.Input.{mostCase};
 
 // Room for any case of the input.
@@ -193,7 +194,7 @@ fn script_case_agrees(case: &[u8]) -> bool {
 
 // Reads a case, which stands after its length.
 fn read_case(buf: &mut [u8]) -> usize
-    ensures { λ r. ⌜ CountsFirst r (now (buf .exit)) ⌝ }
+    ensures { λ r. ⌜ Counts r (now (buf .exit)) ⌝ }
 {
     let mut size = [0u8; 4];
     io::read_full(STDIN_FILENO, &mut size);

@@ -16,16 +16,17 @@ use Rattle.job.specs.declared.Mode.the-variants.{Simple, Steiners, Constraints}
 use Rattle.tree.specs.Memory.{pointAt, pointsOf, keepoutsOf}
 use Rattle.sorting.specs.Points.{Sorted}
 use Rattle.sorting.proofs.Segments.{seg, seg-append, seg-points}
+use Rattle.search.specs.declared.Query.{Query}
 use Rattle.joining.specs.Links.{LinkedBack}
 use Rattle.joining.specs.Store.{Store, SizedStore, Keeps, upTo}
 use Rattle.joining.proofs.Reading.{sized-columns, backed-of}
 use Rattle.nodes.specs.declared.Table.{Table}
 use Rattle.nodes.specs.Table.{tableColumns, tableLinks, tableStore, tableTree}
 use Rattle.inserting.specs.Insert.{stepOf}
-use Rattle.inserting.specs.Route.{treeAfter, Routable, RoutedColumns}
+use Rattle.inserting.specs.Route.{treeAfter, Routable}
 use Rattle.route.specs.declared.Choice.{Choice}
 use Rattle.route.specs.Routing.{wayOf}
-use Rattle.route.specs.Plan.{choiceOf, Plannable, Planned}
+use Rattle.route.specs.Plan.{choiceOf, Plannable, RoutedTable, Planned}
 
 -- ---- the first n of a column, from the front and from the back
 upto-seg : (f : ℕ → Point) (n : ℕ) → upTo f n ≡ seg f 0 n
@@ -73,33 +74,41 @@ module _ (s : Point) (w : ℕ) where
   by-choice Steiners ks ts e = ap (λ (v : ℕ). inserts (stepOf (choiceOf Steiners s v .way) ks) (sort s ts) (rooted s (pos noLimit) v noLimit)) e
   by-choice (Constraints m) ks ts e = ap (λ (v : ℕ). inserts (stepOf (choiceOf (Constraints m) s v .way) ks) (sort s ts) (rooted s (choiceOf (Constraints m) s v .query .allowed) v v)) e
 
--- ---- the call
-module _ (ks px py : List ℤ) (s : Point) (mode : Mode) (v : Plannable px py s) (px′ py′ : List ℤ) (sorted : Sorted px py s px′ py′)
+-- ---- the call on sorted columns
+pub routable : {px py : List ℤ} {a : Query} → Plannable px py (a .point) → (kept : Store) → SizedStore (length (kept .rows .xs)) kept → 241 ≤ length (kept .rows .xs) → Routable px py a kept
+routable v kept z h =
+    record {
+      sized = z;
+      room = omega (arith, v .few);
+      few = v .few;
+      both = v .even .both;
+      source = v .source;
+      near = v .even .near;
+    }
+
+-- ---- the whole
+module _ (px py : List ℤ) (s : Point) (mode : Mode) (v : Plannable px py s) (px′ py′ : List ℤ) (sorted : Sorted px py s px′ py′)
     (w : ℕ) (is-w : w ≡ farthest s (pointsOf px py)) (c : Choice) (is-c : c ≡ choiceOf mode s w) where
-  pub routable : (kept : Store) → SizedStore (length (kept .rows .xs)) kept → 241 ≤ length (kept .rows .xs) → Routable px′ py′ (c .query) kept
-  routable kept z h =
+  pub sorted-plannable : Plannable px′ py′ (c .query .point)
+  sorted-plannable =
       record {
-        sized = z;
-        room = omega (arith, v .few, sorted .size);
+        even = sorted .even;
         few = omega (arith, v .few, sorted .size);
-        both = sorted .even .both;
         source = subst (Within reach) (sym (ap (λ (x : Choice). x .query .point) is-c ∙ from-source s w mode)) (v .source);
-        near = sorted .even .near;
       }
 
-  module _ (t : Table) (of : RoutedColumns (c .way) ks px′ py′ (c .query) (t .counts) (tableStore t)) (size : length (t .xs) ≡ mostNodes)
-      (is-limit : t .limit ≡ c .query .limit) (is-allowed : t .allowed ≡ c .query .allowed) (is-farthest : t .farthest ≡ w) where
+  module _ (ks : List ℤ) (t : Table) (of : RoutedTable ks px′ py′ c w t) where
     table-is : tableTree t ≡ treeAfter (c .way) ks px′ py′ (c .query) w (length px′)
     table-is =
         (λ i. record {
           nodes = tableTree t .nodes;
-          allowed = is-allowed i;
-          farthest = is-farthest i;
-          limit = is-limit i;
+          allowed = of .allowed i;
+          farthest = of .farthest i;
+          limit = of .limit i;
           nextSteiner = t .counts .steiner .0;
           nextTerminal = t .counts .terminal .0;
         })
-        ∙ of .tree w
+        ∙ of .columns .tree w
 
     tree-is : treeAfter (c .way) ks px′ py′ (c .query) w (length px′) ≡ route (wayOf mode) s (pointsOf px py) (keepoutsOf ks)
     unfolding treeAfter
@@ -111,12 +120,12 @@ module _ (ks px py : List ℤ) (s : Point) (mode : Mode) (v : Plannable px py s)
     low-w = omega (arith, farthest-bound v)
 
     sized : SizedStore mostNodes (tableStore t)
-    sized = subst (λ (m : ℕ). SizedStore m (tableStore t)) size (of .sized)
+    sized = subst (λ (m : ℕ). SizedStore m (tableStore t)) (of .size) (of .columns .sized)
 
     back : LinkedBack mostNodes (t .counts .nodes) (tableLinks t)
     back =
-        let h = of .holds w in
-        let few : length (treeAfter (c .way) ks px′ py′ (c .query) w (length px′) .nodes) ≤ mostNodes = omega (arith, h .counted .size, h .counted .steiners, h .stores .terminal, of .next, sorted .size, v .few) in
+        let h = of .columns .holds w in
+        let few : length (treeAfter (c .way) ks px′ py′ (c .query) w (length px′) .nodes) ≤ mostNodes = omega (arith, h .counted .size, h .counted .steiners, h .stores .terminal, of .columns .next, sorted .size, v .few) in
         record {
           size = sized .links .next;
           agree = λ p l. backed-of (treeAfter (c .way) ks px′ py′ (c .query) w (length px′)) (h .formed) few mostNodes (tableColumns t) (sized-columns sized) (h .stores .keeps) few (t .next) (h .stores .backs) p (omega (arith, h .stores .size));
@@ -124,7 +133,7 @@ module _ (ks px py : List ℤ) (s : Point) (mode : Mode) (v : Plannable px py s)
 
     pub planned : Planned ks px py s mode t
     planned =
-        let h = of .holds w in
+        let h = of .columns .holds w in
         record {
           tree = table-is ∙ tree-is;
           formed = subst WellFormed (sym table-is) (h .formed);
@@ -132,7 +141,7 @@ module _ (ks px py : List ℤ) (s : Point) (mode : Mode) (v : Plannable px py s)
           keeps = subst (λ (x : Tree). Keeps (x .nodes) (tableColumns t)) (sym table-is) (h .stores .keeps);
           sized = sized-columns sized;
           back = back;
-          next = of .next ∙ ap (λ (n : ℕ). n + 1) (sorted .size);
-          limit-small = omega (arith, is-limit, ap (λ (x : Choice). x .query .limit) is-c, limit-small s w mode low-w);
-          farthest-small = omega (arith, is-farthest, low-w);
+          next = of .columns .next ∙ ap (λ (n : ℕ). n + 1) (sorted .size);
+          limit-small = omega (arith, of .limit, ap (λ (x : Choice). x .query .limit) is-c, limit-small s w mode low-w);
+          farthest-small = omega (arith, of .farthest, low-w);
         }

@@ -15,10 +15,11 @@ use Rattle.job.specs.declared.Mode.the-variants.{Simple, Steiners, Constraints}
 use Rattle.tree.specs.Memory.{pointsOf, keepoutsOf}
 use Rattle.sorting.specs.Points.{Even}
 use Rattle.inserting.specs.declared.Way.the-variants as W
+use Rattle.inserting.specs.Route.{RoutedColumns}
 use Rattle.joining.specs.Links.{LinkedBack}
 use Rattle.joining.specs.Store.{Sized, Keeps}
 use Rattle.nodes.specs.declared.Table.{Table}
-use Rattle.nodes.specs.Table.{tableColumns, tableLinks, tableTree}
+use Rattle.nodes.specs.Table.{tableColumns, tableLinks, tableStore, tableTree}
 use Rattle.route.specs.declared.Choice.{Choice}
 use Rattle.route.specs.Routing.{wayOf}
 
@@ -32,6 +33,14 @@ pub record Plannable (px py : List ℤ) (s : Point) : Type 0 where
   pub even : Even px py
   pub few : length px ≤ mostTerminals
   pub source : Within reach s
+
+-- the table has the tree of sorted terminals, by a choice, and carries w
+pub record RoutedTable (ks px py : List ℤ) (c : Choice) (w : ℕ) (t : Table) : Type 0 where
+  pub columns : RoutedColumns (c .way) ks px py (c .query) (t .counts) (tableStore t)
+  pub size : length (t .xs) ≡ mostNodes
+  pub limit : t .limit ≡ c .query .limit
+  pub allowed : t .allowed ≡ c .query .allowed
+  pub farthest : t .farthest ≡ w
 
 -- the table is the tree that the definition gives, and keeps it well-formed
 pub record Planned (ks px py : List ℤ) (s : Point) (mode : Mode) (t : Table) : Type 0 where

@@ -11,7 +11,7 @@ ghost use Rattle.tree.specs.Limits.{reach};
 ghost use Rattle.tree.specs.Memory.{pointsOf};
 ghost use Rattle.tree.specs.Route.{farthest};
 ghost use Rattle.sorting.specs.Points.{Even};
-ghost use Rattle.route.specs.Plan.{choiceOf, Plannable, Planned};
+ghost use Rattle.route.specs.Plan.{choiceOf, Plannable, RoutedTable, Planned};
 
 // How a mode routes: the way to join, the tree limit and the allowance.
 pub struct Choice {
@@ -74,14 +74,11 @@ fn choose(mode: Mode, s: Point, w: u32) -> Choice
     }
 }
 
-// The tree of a source and terminals, which are sorted in place.
-pub fn plan(px: &mut [i32], py: &mut [i32], ks: &[i32], s: Point, mode: Mode) -> Table
-    requires { ⌜ Plannable (now px) (now py) s ⌝ }
-    ensures { λ r. ⌜ Planned (now (ks .entry)) (now (px .entry)) (now (py .entry)) s mode r ⌝ }
+// The tree of terminals that are sorted, by a choice; w is W.
+fn route_columns<'a>(px: &'a [i32], py: &'a [i32], ks: &'a [i32], c: Choice, w: u32) -> Table
+    requires { ⌜ Plannable (now px) (now py) (c .query .point) ⌝ }
+    ensures { λ r. ⌜ RoutedTable (now (ks .entry)) (now (px .entry)) (now (py .entry)) c w r ⌝ }
 {
-    let w = farthest(px, py, s);
-    sorting::sort(px, py, s);
-    let c = choose(mode, s, w);
     let way = c.way;
     let query = c.query;
     let mut xs = [0i32; tree::MOST_NODES];
@@ -128,4 +125,15 @@ pub fn plan(px: &mut [i32], py: &mut [i32], ks: &[i32], s: Point, mode: Mode) ->
         allowed: query.allowed,
         farthest: w,
     }
+}
+
+// The tree of a source and terminals, which are sorted in place.
+pub fn plan(px: &mut [i32], py: &mut [i32], ks: &[i32], s: Point, mode: Mode) -> Table
+    requires { ⌜ Plannable (now px) (now py) s ⌝ }
+    ensures { λ r. ⌜ Planned (now (ks .entry)) (now (px .entry)) (now (py .entry)) s mode r ⌝ }
+{
+    let w = farthest(px, py, s);
+    sorting::sort(px, py, s);
+    let c = choose(mode, s, w);
+    route_columns(px, py, ks, c, w)
 }

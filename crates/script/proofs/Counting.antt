@@ -4,7 +4,7 @@ use mathlib.Core.Path.{sym}
 use mathlib.Core.List.{List}
 use lib.ListN.{length}
 use lib.Seq.{length-take-le}
-use Rattle.script.specs.Runs.{CountsFirst}
+use Rattle.io.specs.Counts.{Counts}
 
-pub counts : {n : ℕ} (l : List ℕ) → n ≤ length l → CountsFirst n l
+pub counts : {n : ℕ} (l : List ℕ) → n ≤ length l → Counts n l
 counts l h = (h, sym (length-take-le _ l h))

@@ -1,8 +1,7 @@
 -- What running a script keeps. Definitions only.
-use Prim.Native.Nat.{ℕ, _≤_}
-use mathlib.Core.Path.{_≡_}
+use Prim.Native.Nat.{ℕ}
 use mathlib.Core.List.{List}
-use lib.ListN.{length, take}
+use Rattle.io.specs.Counts.{Counts}
 use Rattle.global_router.specs.Stored.{Stored}
 use Rattle.script.specs.declared.Progress.{Progress}
 
@@ -17,11 +16,7 @@ mostListed = 250
 abbrev pub mostAnswer : ℕ
 mostAnswer = 65552
 
--- the first n of a list are there
-abbrev pub CountsFirst : ℕ → List ℕ → Type 0
-CountsFirst n l = (n ≤ length l) × (n ≡ length (take n l))
-
 -- the tree is one that the calls give, and the answer lies at the buffer's start
 pub record Runs (out : List ℕ) (r : Progress) : Type 0 where
   pub stored : Stored (r .tree)
-  pub fits : CountsFirst (r .written) out
+  pub fits : Counts (r .written) out

@@ -17,10 +17,11 @@ use tree::NodeName;
 ghost use mathlib.Core.Path.{_≡_};
 ghost use Prim.Native.Nat.{_+_, _<_, _≤_};
 ghost use lib.ListN.{length};
+ghost use Rattle.io.specs.Counts.{Counts};
 ghost use Rattle.rectangles.specs.Rectangles.{room};
 ghost use Rattle.global_router.specs.Stored.{Stored};
 ghost use Rattle.planning.specs.Output.{mostText};
-ghost use Rattle.script.specs.Runs.{mostBytes, mostListed, mostAnswer, CountsFirst, Runs};
+ghost use Rattle.script.specs.Runs.{mostBytes, mostListed, mostAnswer, Runs};
 
 const HEADER_SIZE: usize = 16;
 
@@ -78,13 +79,13 @@ fn least(a: usize, b: usize) -> usize
 // As many of n bytes, or of n indices, as there are.
 pub fn within(n: usize, s: &[u8]) -> usize
     ensures few { λ r. ⌜ r ≤ n ⌝ }
-    ensures counts { λ r. ⌜ CountsFirst r (now (s .entry)) ⌝ }
+    ensures counts { λ r. ⌜ Counts r (now (s .entry)) ⌝ }
 {
     least(n, s.len())
 }
 
 fn within_list(n: usize, s: &[u16]) -> usize
-    ensures { λ r. ⌜ CountsFirst r (now (s .entry)) ⌝ }
+    ensures { λ r. ⌜ Counts r (now (s .entry)) ⌝ }
 {
     least(n, s.len())
 }

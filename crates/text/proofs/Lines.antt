@@ -15,6 +15,7 @@ use Rattle.tree.specs.Memory.{pointAt}
 use Rattle.search.specs.Columns.{Has, chain}
 use Rattle.search.proofs.Chains.{Unrolled, unroll, ended}
 use Rattle.joining.specs.Store.{Columns, nameFrom}
+use Rattle.joining.proofs.Names.{from-source, from-steiner, from-terminal}
 use Rattle.measures.proofs.Lent.{Read}
 use Rattle.text.specs.Text.{indent, headOf, lineOf, nodeLine, each, textFrom, textOf}
 use Rattle.text.specs.Children.{Siblings}
@@ -31,20 +32,15 @@ indent-none (suc k) h = absurd (omega arith)
 
 pub head-source : (k n : ℕ) → k ≡ 0 → bytes "Source(source" ≡ headOf (nameFrom k n)
 unfolding headOf
-head-source zero n h = refl
-head-source (suc k) n h = absurd (omega arith)
+head-source k n h = ap headOf (from-source k n h)
 
 pub head-steiner : (k n : ℕ) → k ≡ 1 → bytes "Steiner(steiner_" ++ decimalOf n ≡ headOf (nameFrom k n)
 unfolding headOf
-head-steiner zero n h = absurd (omega arith)
-head-steiner (suc zero) n h = refl
-head-steiner (suc (suc k)) n h = absurd (omega arith)
+head-steiner k n h = ap headOf (from-steiner k n h)
 
 pub head-terminal : (k n : ℕ) → (k ≡ 0 → ⊥) → (k ≡ 1 → ⊥) → bytes "Terminal(terminal_" ++ decimalOf n ≡ headOf (nameFrom k n)
 unfolding headOf
-head-terminal zero n f g = absurd (f refl)
-head-terminal (suc zero) n f g = absurd (g refl)
-head-terminal (suc (suc k)) n f g = refl
+head-terminal k n f g = ap headOf (from-terminal k n f g)
 
 -- ---- a node
 text-none : (ns : List Node) (left level i : ℕ) → left ≡ 0 → nodeLine level (nodeAt ns i) ≡ textFrom ns left level i

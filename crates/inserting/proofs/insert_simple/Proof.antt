@@ -6,13 +6,13 @@ use Rattle.inserting.proofs.insert_simple.Statement.{statement}
 use Rattle.inserting.proofs.insert_simple.Tie as tie
 
 find-nearest-node-requires : tie.Need-find-nearest-node-requires
-find-nearest-node-requires c κs = may-find (c .before .before .before .before .before .before .before .before .before .pre)
+find-nearest-node-requires c κs = may-find (c .before .before .before .before .before .before .before .before .before .before .pre)
 
 attach-requires : tie.Need-attach-requires
-attach-requires c κs = may-simple (c .before .before .before .before .before .before .before .before .before .before .before .before .before .before .before .before .before .before .before .pre) _ (c .before .before .before .before .before .before .before .before .before .find-nearest-node .ensures)
+attach-requires c κs = may-simple (c .before .before .before .before .before .before .before .before .before .before .before .before .before .before .before .before .before .before .before .before .pre) _ (c .before .before .before .before .before .before .before .before .before .find-nearest-node .ensures)
 
 one-more-requires : tie.Need-one-more-requires
-one-more-requires c κs = next-counts (c .before .before .before .before .before .before .before .before .before .before .before .before .before .before .before .before .before .before .before .before .before .before .before .before .before .before .before .before .before .before .before .before .before .before .before .before .pre) (omega arith)
+one-more-requires c κs = next-counts (c .before .before .before .before .before .before .before .before .before .before .before .before .before .before .before .before .before .before .before .before .before .before .before .before .before .before .before .before .before .before .before .before .before .before .before .before .before .pre) (omega arith)
 
 -- the place after the call of `attach`
 abbrev attached : tie.After-one-more → tie.After-attach
@@ -46,7 +46,7 @@ same-length-9 : tie.Need-same-length-9
 same-length-9 c = attached c .attach .kept .1 .1 .1 .1 .1 .1 .1 .1 .0
 
 returns : tie.Need-returns
-returns c = did-simple (c .before .before .before .before .before .before .before .before .before .before .before .before .before .before .before .before .before .before .before .before .before .before .before .before .before .before .before .before .before .before .before .before .before .before .before .before .before .pre) _ (c .before .before .before .before .before .before .before .before .before .before .before .before .before .before .before .before .before .before .before .before .before .before .before .before .before .before .before .find-nearest-node .ensures) _ (attached c .attach .ensures) _ (c .one-more .ensures)
+returns c = did-simple (c .before .before .before .before .before .before .before .before .before .before .before .before .before .before .before .before .before .before .before .before .before .before .before .before .before .before .before .before .before .before .before .before .before .before .before .before .before .before .pre) _ (c .before .before .before .before .before .before .before .before .before .before .before .before .before .before .before .before .before .before .before .before .before .before .before .before .before .before .before .find-nearest-node .ensures) _ (attached c .attach .ensures) _ (c .one-more .ensures)
 
 pub insert-simple-spec : {M : Type 1} → statement M
 insert-simple-spec =

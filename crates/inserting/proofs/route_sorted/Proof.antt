@@ -1,136 +1,72 @@
--- `inserting::route_sorted`: at the head of the loop the columns hold the tree of the terminals so far, and the boxes cover it.
-use Prim.Native.Nat.{_-_}
-use mathlib.Core.Path.{refl, sym, _∙_}
+-- `inserting::route_sorted`: the source is stored, and then the terminals join.
+use mathlib.Core.Path.{refl, _∙_}
 use native.Mathlib.Omega.{arith}
-use lib.ListN.{length}
 use Rattle.joining.specs.Links.{links}
-use Rattle.joining.specs.Store.{Store, rowsOf, store}
-use Rattle.inserting.proofs.Turning.{Under, starts, stands, turn, ends}
+use Rattle.joining.specs.Store.{rowsOf, store}
+use Rattle.inserting.proofs.Turning.{may-insert}
 use Rattle.inserting.proofs.route_sorted.Statement.{statement}
 use Rattle.inserting.proofs.route_sorted.Tie as tie
 
-abbrev Inv-loop : tie.InvT-loop
-Inv-loop xs₀ ys₀ path₀ parent₀ kind₀ number₀ last₀ prev₀ next₀ lows₀ highs₀ px py ks way a k₀ i₀ xs ys path parent kind number last prev next lows highs k i =
-    Under (length prev₀) lows₀ highs₀ way ks px py a i k (store (rowsOf xs ys path parent kind number) (links last prev next)) lows highs
+-- the places after the calls
+abbrev routed : tie.After-highs → tie.After-insert-all
+routed c = c .before .before .before .before .before .before .before .before .before .before .before .before .before .before .before .before .before .before
 
-abbrev μ-loop : tie.MeasureT-loop
-μ-loop xs₀ ys₀ path₀ parent₀ kind₀ number₀ last₀ prev₀ next₀ lows₀ highs₀ px py ks way a k₀ i₀ xs ys path parent kind number last prev next lows highs k i =
-    length px - i
+abbrev stored : tie.After-highs → tie.After-store-source
+stored c = routed c .before .before .before .before .before .before .before .before .before .before .before .before .before .before .before .before .before .before .before .before .before .before .before .before
 
--- the columns at entry, and at the loop's head
-abbrev cols : tie.Start Inv-loop μ-loop → Store
-cols s = store (rowsOf (s .args .xs .now) (s .args .ys .now) (s .args .path .now) (s .args .parent .now) (s .args .kind .now) (s .args .number .now)) (links (s .args .last .now) (s .args .prev .now) (s .args .next .now))
-
-abbrev here : tie.At-loop Inv-loop μ-loop → Store
-here d = store (rowsOf (d .loop .xs) (d .loop .ys) (d .loop .path) (d .loop .parent) (d .loop .kind) (d .loop .number)) (links (d .loop .last) (d .loop .prev) (d .loop .next))
-
--- the places on the way to the end of a turn
-abbrev covered : tie.At-loop Inv-loop μ-loop → tie.After-cover-source Inv-loop μ-loop
-covered c = c .before .before .before
-
-abbrev entry : tie.At-loop Inv-loop μ-loop → tie.Start Inv-loop μ-loop
-entry c = covered c .before .before .before .before .before .before .before .before .before .before .before .before .before .before .before .before .before .before .before .before .before .before .before .before .before .before .before .before .before .before .before
-
-abbrev asked : tie.After-highs2 Inv-loop μ-loop → tie.After-query-at Inv-loop μ-loop
-asked c = c .before .before .before .before .before .before .before .before .before .before .before .before .before .before .before .before .before .before .before .before .before .before .before .before .before .before .before .before .before .before
-
-store-source-requires : tie.Need-store-source-requires Inv-loop μ-loop
+store-source-requires : tie.Need-store-source-requires
 store-source-requires c κs = let v = c .before .before .before .before .before .before .before .before .before .before .before .before .before .before .before .pre .0 in (v .sized .rows, (omega (arith, v .room), omega (arith, v .room, v .sized .links .last)))
 
-cover-source-requires : tie.Need-cover-source-requires Inv-loop μ-loop
-cover-source-requires c κs = let v = c .before .before .before .before .before .before .before .before .before .before .before .before .before .before .before .before .before .before .before .before .before .before .before .before .before .before .before .before .before .before .pre in record { in-lows = omega (arith, v .0 .room, v .1 .in-lows); in-highs = omega (arith, v .0 .room, v .1 .in-highs) }
+insert-all-requires : tie.Need-insert-all-requires
+insert-all-requires c κs =
+    let s = c .before .before .before .before .before .before .before .before .before .before .before .before .before .before .before .before .before .before .before .before .before .before .before .before .before .before .before .before .before .before .before .before .before .before .before .before .before .before .before in
+    let o = c .before .before .before .before .before .before .before .before .before .before .before .before .before .before .before .before .before .before .before .before .before .before .before .store-source in
+    may-insert _ _ _ (store (rowsOf (s .args .xs .now) (s .args .ys .now) (s .args .path .now) (s .args .parent .now) (s .args .kind .now) (s .args .number .now)) (links (s .args .last .now) (s .args .prev .now) (s .args .next .now)))
+    (s .pre .0) _ (record { rows = o .ensures .0; last = o .ensures .1; prev = refl; next = refl })
+    _ _ (record { in-lows = omega (arith, s .pre .1 .in-lows, o .kept .0); in-highs = omega (arith, s .pre .1 .in-highs, o .kept .0) })
 
-loop-holds : tie.Need-loop-holds Inv-loop μ-loop
-loop-holds c =
-    let s = c .before .before .before .before .before .before .before .before .before .before .before .before .before .before .before .before .before .before .before .before .before .before .before .before .before .before .before .before .before .before .before .before .before in
-    let e = c .before .before .before .before .before .before .before .before .before .before .before .before .before .before .before .before .before .store-source .ensures in
-    starts (s .args .way) _ _ _ _ (cols s) (s .pre .0) _ (record { rows = e .0; last = e .1; prev = refl; next = refl }) _ _ (c .before .before .cover-source .ensures)
+same-length : tie.Need-same-length
+same-length c = routed c .insert-all .kept .0 ∙ stored c .store-source .kept .0
 
-query-at-requires : tie.Need-query-at-requires Inv-loop μ-loop
-query-at-requires c κs = (c .loop-test .taken, omega (arith, c .loop-test .taken, entry (c .before) .pre .0 .both))
+same-length-2 : tie.Need-same-length-2
+same-length-2 c = routed c .insert-all .kept .1 .0 ∙ stored c .store-source .kept .1 .0
 
-insert-terminal-requires : tie.Need-insert-terminal-requires Inv-loop μ-loop
-insert-terminal-requires c κs =
-    let d = c .before .before .before .before .before .before .before .before .before .before .before .before .before in
-    let s = entry d in
-    let u = d .loop .inv in
-    let k = covered d .cover-source .kept in
-    let z = s .pre .0 .sized in (
-      stands (s .args .way) _ _ _ _ (cols s) (s .pre .0) _ _ _ _ (here d) _ _ u (c .before .before .before .before .before .before .before .before .before .before .before .before .loop-test .taken) _ (c .before .before .before .before .before .before .before .before .before .before .before .query-at .ensures),
-      record {
-        in-lows = omega (arith, s .pre .1 .in-lows, k .0, u .as-lows, u .sized .rows .xs, z .links .prev);
-        in-highs = omega (arith, s .pre .1 .in-highs, k .1 .0, u .as-highs, u .sized .rows .xs, z .links .prev);
-      },
-    )
+same-length-3 : tie.Need-same-length-3
+same-length-3 c = routed c .insert-all .kept .1 .1 .0 ∙ stored c .store-source .kept .1 .1 .0
 
-add-i : tie.Need-add-i Inv-loop μ-loop
-add-i c = omega (arith, asked c .before .loop-test .taken, entry (asked c .before .before) .pre .0 .few)
+same-length-4 : tie.Need-same-length-4
+same-length-4 c = routed c .insert-all .kept .1 .1 .1 .0 ∙ stored c .store-source .kept .1 .1 .1 .0
 
-loop-less : tie.Need-loop-less Inv-loop μ-loop
-loop-less c = omega (arith, asked c .before .loop-test .taken)
+same-length-5 : tie.Need-same-length-5
+same-length-5 c = routed c .insert-all .kept .1 .1 .1 .1 .0 ∙ stored c .store-source .kept .1 .1 .1 .1 .0
 
-loop-again : tie.Need-loop-again Inv-loop μ-loop
-loop-again c =
-    let a = asked c in
-    let d = a .before .before in
-    let s = entry d in
-    let o = c .before .before .before .before .before .before .before .before .before .before .before .before .before .before .before .before .before .before .insert-terminal in
-    let k = o .kept .1 .1 .1 .1 .1 .1 .1 .1 .1 in
-    turn (s .args .way) _ _ _ _ (cols s) (s .pre .0) _ _ _ _ (here d) _ _ (d .loop .inv) (a .before .loop-test .taken) _ (a .query-at .ensures) _ _ _ _ (k .0) (k .1 .0) (o .ensures)
+same-length-6 : tie.Need-same-length-6
+same-length-6 c = routed c .insert-all .kept .1 .1 .1 .1 .1 .0 ∙ stored c .store-source .kept .1 .1 .1 .1 .1 .0
 
-same-length : tie.Need-same-length Inv-loop μ-loop
-same-length c = let z = entry (c .before) .pre .0 .sized in c .before .loop .inv .sized .rows .xs ∙ z .links .prev ∙ sym (z .rows .xs)
+same-length-7 : tie.Need-same-length-7
+same-length-7 c = routed c .insert-all .kept .1 .1 .1 .1 .1 .1 .0 ∙ stored c .store-source .kept .1 .1 .1 .1 .1 .1 .0
 
-same-length-2 : tie.Need-same-length-2 Inv-loop μ-loop
-same-length-2 c = let z = entry (c .before) .pre .0 .sized in c .before .loop .inv .sized .rows .ys ∙ z .links .prev ∙ sym (z .rows .ys)
+same-length-8 : tie.Need-same-length-8
+same-length-8 c = routed c .insert-all .kept .1 .1 .1 .1 .1 .1 .1 .0
 
-same-length-3 : tie.Need-same-length-3 Inv-loop μ-loop
-same-length-3 c = let z = entry (c .before) .pre .0 .sized in c .before .loop .inv .sized .rows .path ∙ z .links .prev ∙ sym (z .rows .path)
+same-length-9 : tie.Need-same-length-9
+same-length-9 c = routed c .insert-all .kept .1 .1 .1 .1 .1 .1 .1 .1 .0
 
-same-length-4 : tie.Need-same-length-4 Inv-loop μ-loop
-same-length-4 c = let z = entry (c .before) .pre .0 .sized in c .before .loop .inv .sized .rows .parent ∙ z .links .prev ∙ sym (z .rows .parent)
+same-length-10 : tie.Need-same-length-10
+same-length-10 c = routed c .insert-all .kept .1 .1 .1 .1 .1 .1 .1 .1 .1 .0
 
-same-length-5 : tie.Need-same-length-5 Inv-loop μ-loop
-same-length-5 c = let z = entry (c .before) .pre .0 .sized in c .before .loop .inv .sized .rows .kind ∙ z .links .prev ∙ sym (z .rows .kind)
+same-length-11 : tie.Need-same-length-11
+same-length-11 c = routed c .insert-all .kept .1 .1 .1 .1 .1 .1 .1 .1 .1 .1 .0
 
-same-length-6 : tie.Need-same-length-6 Inv-loop μ-loop
-same-length-6 c = let z = entry (c .before) .pre .0 .sized in c .before .loop .inv .sized .rows .number ∙ z .links .prev ∙ sym (z .rows .number)
-
-same-length-7 : tie.Need-same-length-7 Inv-loop μ-loop
-same-length-7 c = let z = entry (c .before) .pre .0 .sized in c .before .loop .inv .sized .links .last ∙ z .links .prev ∙ sym (z .links .last)
-
-same-length-8 : tie.Need-same-length-8 Inv-loop μ-loop
-same-length-8 c = c .before .loop .inv .sized .links .prev
-
-same-length-9 : tie.Need-same-length-9 Inv-loop μ-loop
-same-length-9 c = let z = entry (c .before) .pre .0 .sized in c .before .loop .inv .sized .links .next ∙ z .links .prev ∙ sym (z .links .next)
-
-same-length-10 : tie.Need-same-length-10 Inv-loop μ-loop
-same-length-10 c = c .before .loop .inv .as-lows ∙ covered (c .before) .cover-source .kept .0
-
-same-length-11 : tie.Need-same-length-11 Inv-loop μ-loop
-same-length-11 c = c .before .loop .inv .as-highs ∙ covered (c .before) .cover-source .kept .1 .0
-
-returns : tie.Need-returns Inv-loop μ-loop
-returns c =
-    let d = c .before in
-    let s = entry d in
-    ends (s .args .way) _ _ _ _ (cols s) (s .pre .0) _ _ _ _ (here d) _ _ (d .loop .inv) (omega (arith, c .loop-test .left, d .loop .inv .low))
+returns : tie.Need-returns
+returns c = routed c .insert-all .ensures
 
 pub route-sorted-spec : {M : Type 1} → statement M
 route-sorted-spec =
     tie.close
     (tie.spec
-    Inv-loop
-    μ-loop
     store-source-requires
-    cover-source-requires
-    loop-holds
-    query-at-requires
-    insert-terminal-requires
-    add-i
-    loop-less
-    loop-again
+    insert-all-requires
     same-length
     same-length-2
     same-length-3
