@@ -197,7 +197,7 @@ fn query_at<'a>(px: &'a [i32], py: &'a [i32], i: usize, a: Query) -> Query
     }
 }
 
-// The terminals, which are sorted, join a source alone in their order.
+// The terminals join a source alone, in the order given.
 fn insert_all<'a>(
     xs: &mut [i32],
     ys: &mut [i32],
@@ -248,7 +248,7 @@ fn insert_all<'a>(
     k
 }
 
-// The tree of the source at a's point and the terminals, which are sorted, joined in their order.
+// The tree of the source at a's point and the terminals, joined in the order given.
 pub fn route_sorted<'a>(
     xs: &mut [i32],
     ys: &mut [i32],

@@ -364,7 +364,7 @@ fn join_onto(
 }
 
 // A terminal at q joins on the branch from p to c.
-fn join_between(
+fn join_on_branch(
     xs: &mut [i32],
     ys: &mut [i32],
     path: &mut [u32],
@@ -433,7 +433,7 @@ pub fn join(
             p,
             q,
         ),
-        Join::Split(p, c) => join_between(
+        Join::Split(p, c) => join_on_branch(
             xs,
             ys,
             path,

@@ -26,7 +26,7 @@ use Rattle.inserting.specs.Insert.{stepOf}
 use Rattle.inserting.specs.Route.{treeAfter, Routable}
 use Rattle.route.specs.declared.Choice.{Choice}
 use Rattle.route.specs.Routing.{wayOf}
-use Rattle.route.specs.Plan.{choiceOf, Plannable, RoutedTable, Planned}
+use Rattle.route.specs.Plan.{choiceOf, Plannable, TableRouted, Planned}
 
 -- ---- the first n of a column, from the front and from the back
 upto-seg : (f : ℕ → Point) (n : ℕ) → upTo f n ≡ seg f 0 n
@@ -97,7 +97,7 @@ module _ (px py : List ℤ) (s : Point) (mode : Mode) (v : Plannable px py s) (p
         source = subst (Within reach) (sym (ap (λ (x : Choice). x .query .point) is-c ∙ from-source s w mode)) (v .source);
       }
 
-  module _ (ks : List ℤ) (t : Table) (of : RoutedTable ks px′ py′ c w t) where
+  module _ (ks : List ℤ) (t : Table) (of : TableRouted ks px′ py′ c w t) where
     table-is : tableTree t ≡ treeAfter (c .way) ks px′ py′ (c .query) w (length px′)
     table-is =
         (λ i. record {

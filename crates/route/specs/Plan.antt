@@ -34,8 +34,8 @@ pub record Plannable (px py : List ℤ) (s : Point) : Type 0 where
   pub few : length px ≤ mostTerminals
   pub source : Within reach s
 
--- the table has the tree of sorted terminals, by a choice, and carries w
-pub record RoutedTable (ks px py : List ℤ) (c : Choice) (w : ℕ) (t : Table) : Type 0 where
+-- the table has the tree of terminals in the order given, by a choice, and carries w
+pub record TableRouted (ks px py : List ℤ) (c : Choice) (w : ℕ) (t : Table) : Type 0 where
   pub columns : RoutedColumns (c .way) ks px py (c .query) (t .counts) (tableStore t)
   pub size : length (t .xs) ≡ mostNodes
   pub limit : t .limit ≡ c .query .limit

@@ -11,7 +11,7 @@ ghost use Rattle.tree.specs.Limits.{reach};
 ghost use Rattle.tree.specs.Memory.{pointsOf};
 ghost use Rattle.tree.specs.Route.{farthest};
 ghost use Rattle.sorting.specs.Points.{Even};
-ghost use Rattle.route.specs.Plan.{choiceOf, Plannable, RoutedTable, Planned};
+ghost use Rattle.route.specs.Plan.{choiceOf, Plannable, TableRouted, Planned};
 
 // How a mode routes: the way to join, the tree limit and the allowance.
 pub struct Choice {
@@ -74,10 +74,10 @@ fn choose(mode: Mode, s: Point, w: u32) -> Choice
     }
 }
 
-// The tree of terminals that are sorted, by a choice; w is W.
+// The tree of terminals in the order given, by a choice; the table carries w.
 fn route_columns<'a>(px: &'a [i32], py: &'a [i32], ks: &'a [i32], c: Choice, w: u32) -> Table
     requires { ⌜ Plannable (now px) (now py) (c .query .point) ⌝ }
-    ensures { λ r. ⌜ RoutedTable (now (ks .entry)) (now (px .entry)) (now (py .entry)) c w r ⌝ }
+    ensures { λ r. ⌜ TableRouted (now (ks .entry)) (now (px .entry)) (now (py .entry)) c w r ⌝ }
 {
     let way = c.way;
     let query = c.query;

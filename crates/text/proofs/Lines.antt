@@ -15,7 +15,7 @@ use Rattle.tree.specs.Memory.{pointAt}
 use Rattle.search.specs.Columns.{Has, chain}
 use Rattle.search.proofs.Chains.{Unrolled, unroll, ended}
 use Rattle.joining.specs.Store.{Columns, nameFrom}
-use Rattle.joining.proofs.Names.{from-source, from-steiner, from-terminal}
+use Rattle.joining.proofs.Names.{name-source, name-steiner, name-terminal}
 use Rattle.measures.proofs.Lent.{Read}
 use Rattle.text.specs.Text.{indent, headOf, lineOf, nodeLine, each, textFrom, textOf}
 use Rattle.text.specs.Children.{Siblings}
@@ -32,15 +32,15 @@ indent-none (suc k) h = absurd (omega arith)
 
 pub head-source : (k n : ℕ) → k ≡ 0 → bytes "Source(source" ≡ headOf (nameFrom k n)
 unfolding headOf
-head-source k n h = ap headOf (from-source k n h)
+head-source k n h = ap headOf (name-source k n h)
 
 pub head-steiner : (k n : ℕ) → k ≡ 1 → bytes "Steiner(steiner_" ++ decimalOf n ≡ headOf (nameFrom k n)
 unfolding headOf
-head-steiner k n h = ap headOf (from-steiner k n h)
+head-steiner k n h = ap headOf (name-steiner k n h)
 
 pub head-terminal : (k n : ℕ) → (k ≡ 0 → ⊥) → (k ≡ 1 → ⊥) → bytes "Terminal(terminal_" ++ decimalOf n ≡ headOf (nameFrom k n)
 unfolding headOf
-head-terminal k n f g = ap headOf (from-terminal k n f g)
+head-terminal k n f g = ap headOf (name-terminal k n f g)
 
 -- ---- a node
 text-none : (ns : List Node) (left level i : ℕ) → left ≡ 0 → nodeLine level (nodeAt ns i) ≡ textFrom ns left level i

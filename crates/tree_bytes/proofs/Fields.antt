@@ -14,13 +14,13 @@ use Rattle.tree.specs.Tree.{Node, nodeAt}
 use Rattle.tree.specs.Measures.{kindOf, numberOf, placeUnder}
 use Rattle.tree.specs.Memory.{pointAt}
 use Rattle.joining.specs.Store.{Columns, nameFrom, parentFrom}
-use Rattle.joining.proofs.Names.{from-source}
+use Rattle.joining.proofs.Names.{name-source}
 use Rattle.measures.proofs.Lent.{Read, point-is}
 use Rattle.tree_bytes.specs.TreeBytes.{parentByte, recordOf, inTurn}
 use Rattle.tree_bytes.specs.Show.{showRecord}
 
 pub number-source : (k n : ℕ) → k ≡ 0 → 0 ≡ numberOf (nameFrom k n)
-number-source k n h = ap numberOf (from-source k n h)
+number-source k n h = ap numberOf (name-source k n h)
 
 pub number-other : (k n : ℕ) → (k ≡ 0 → ⊥) → n ≡ numberOf (nameFrom k n)
 number-other zero n f = absurd (f refl)

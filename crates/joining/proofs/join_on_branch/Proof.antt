@@ -1,7 +1,7 @@
--- `joining::join_between`: two nodes are added, as the tree's own joining has it.
+-- `joining::join_on_branch`: two nodes are added, as the tree's own joining has it.
 use Rattle.joining.proofs.Placing.{may-split, next-split, did-split}
-use Rattle.joining.proofs.join_between.Statement.{statement}
-use Rattle.joining.proofs.join_between.Tie as tie
+use Rattle.joining.proofs.join_on_branch.Statement.{statement}
+use Rattle.joining.proofs.join_on_branch.Tie as tie
 
 -- the place after the call of `split_branch`
 abbrev split : tie.After-two-more → tie.After-split-branch
@@ -43,8 +43,8 @@ same-length-9 c = split c .split-branch .kept .1 .1 .1 .1 .1 .1 .1 .1 .0
 returns : tie.Need-returns
 returns c = did-split _ _ (split c .before .before .before .before .before .before .before .before .before .before .before .before .before .before .before .before .before .pre) _ (split c .split-branch .ensures) _ (c .two-more .ensures)
 
-pub join-between-spec : {M : Type 1} → statement M
-join-between-spec =
+pub join-on-branch-spec : {M : Type 1} → statement M
+join-on-branch-spec =
     tie.close
     (tie.spec
     split-branch-requires
