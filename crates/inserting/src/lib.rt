@@ -143,7 +143,7 @@ fn insert_terminal(
 
 // ---- the route
 
-// The source alone.
+// The source alone, at a's point.
 fn store_source(
     xs: &mut [i32],
     ys: &mut [i32],
@@ -152,12 +152,13 @@ fn store_source(
     kind: &mut [u8],
     number: &mut [u16],
     last: &mut [u16],
-    s: Point,
+    a: Query,
 )
     requires { ⌜ SizedRows (length (now xs)) (rowsOf (now xs) (now ys) (now path) (now parent) (now kind) (now number)) ⌝ }
     requires { ⌜ (0 < length (now xs)) × (0 < length (now last)) ⌝ }
-    ensures { λ r. ⌜ (rowsOf (now (xs .exit)) (now (ys .exit)) (now (path .exit)) (now (parent .exit)) (now (kind .exit)) (now (number .exit)) ≡ setRow (rowsOf (now (xs .entry)) (now (ys .entry)) (now (path .entry)) (now (parent .entry)) (now (kind .entry)) (now (number .entry))) 0 (sourceRow s)) × (now (last .exit) ≡ set (now (last .entry)) 0 noNode) ⌝ }
+    ensures { λ r. ⌜ (rowsOf (now (xs .exit)) (now (ys .exit)) (now (path .exit)) (now (parent .exit)) (now (kind .exit)) (now (number .exit)) ≡ setRow (rowsOf (now (xs .entry)) (now (ys .entry)) (now (path .entry)) (now (parent .entry)) (now (kind .entry)) (now (number .entry))) 0 (sourceRow (a .point))) × (now (last .exit) ≡ set (now (last .entry)) 0 noNode) ⌝ }
 {
+    let s = a.point;
     let none = NodeIndex(tree::NO_NODE);
     let source = NodeIndex(0);
     let row = Row {
@@ -225,7 +226,7 @@ fn insert_all<'a>(
     let mut i: usize = 0;
     while i < px.len() {
         let b = query_at(px, py, i, a);
-        let r = insert_terminal(
+        k = insert_terminal(
             xs,
             ys,
             path,
@@ -242,7 +243,6 @@ fn insert_all<'a>(
             b,
             ks,
         );
-        k = r;
         i = i + 1;
     }
     k
@@ -270,8 +270,7 @@ pub fn route_sorted<'a>(
     requires { ⌜ Routable (now px) (now py) a (store (rowsOf (now xs) (now ys) (now path) (now parent) (now kind) (now number)) (links (now last) (now prev) (now next))) × BoxRoom (length (now xs)) (now lows) (now highs) ⌝ }
     ensures { λ r. ⌜ RoutedColumns way (now (ks .entry)) (now (px .entry)) (now (py .entry)) a r (store (rowsOf (now (xs .exit)) (now (ys .exit)) (now (path .exit)) (now (parent .exit)) (now (kind .exit)) (now (number .exit))) (links (now (last .exit)) (now (prev .exit)) (now (next .exit)))) ⌝ }
 {
-    let s = a.point;
-    store_source(xs, ys, path, parent, kind, number, last, s);
+    store_source(xs, ys, path, parent, kind, number, last, a);
     insert_all(
         xs,
         ys,

@@ -15,11 +15,11 @@ abbrev stored : tie.After-highs → tie.After-store-source
 stored c = routed c .before .before .before .before .before .before .before .before .before .before .before .before .before .before .before .before .before .before .before .before .before .before .before .before
 
 store-source-requires : tie.Need-store-source-requires
-store-source-requires c κs = let v = c .before .before .before .before .before .before .before .before .before .before .before .before .before .before .before .pre .0 in (v .sized .rows, (omega (arith, v .room), omega (arith, v .room, v .sized .links .last)))
+store-source-requires c κs = let v = c .before .before .before .before .before .before .before .before .before .before .before .before .before .before .pre .0 in (v .sized .rows, (omega (arith, v .room), omega (arith, v .room, v .sized .links .last)))
 
 insert-all-requires : tie.Need-insert-all-requires
 insert-all-requires c κs =
-    let s = c .before .before .before .before .before .before .before .before .before .before .before .before .before .before .before .before .before .before .before .before .before .before .before .before .before .before .before .before .before .before .before .before .before .before .before .before .before .before .before in
+    let s = c .before .before .before .before .before .before .before .before .before .before .before .before .before .before .before .before .before .before .before .before .before .before .before .before .before .before .before .before .before .before .before .before .before .before .before .before .before .before in
     let o = c .before .before .before .before .before .before .before .before .before .before .before .before .before .before .before .before .before .before .before .before .before .before .before .store-source in
     may-insert _ _ _ (store (rowsOf (s .args .xs .now) (s .args .ys .now) (s .args .path .now) (s .args .parent .now) (s .args .kind .now) (s .args .number .now)) (links (s .args .last .now) (s .args .prev .now) (s .args .next .now)))
     (s .pre .0) _ (record { rows = o .ensures .0; last = o .ensures .1; prev = refl; next = refl })

@@ -5,10 +5,10 @@ use Rattle.inserting.proofs.store_source.Statement.{statement}
 use Rattle.inserting.proofs.store_source.Tie as tie
 
 store-row-requires : tie.Need-store-row-requires
-store-row-requires c κs = (c .before .before .before .before .before .before .before .before .before .before .before .pre .0, c .before .before .before .before .before .before .before .before .before .before .before .pre .1 .0)
+store-row-requires c κs = (c .before .before .before .before .before .before .before .before .before .before .before .before .pre .0, c .before .before .before .before .before .before .before .before .before .before .before .before .pre .1 .0)
 
 slice-write-last : tie.Need-slice-write-last
-slice-write-last c = c .before .before .before .before .before .before .before .before .before .before .before .before .before .before .before .before .before .before .before .before .before .before .pre .1 .1
+slice-write-last c = c .before .before .before .before .before .before .before .before .before .before .before .before .before .before .before .before .before .before .before .before .before .before .before .pre .1 .1
 
 -- the place after the call
 abbrev stored : tie.After-slice-known9 → tie.After-store-row
