@@ -7,10 +7,8 @@ set -euo pipefail
 root=$(cd "$(dirname "$0")/.." && pwd)
 src=${PHYSDES_SRC:-$root/../shared/docs/src/src}
 out=$root/target/compare
-registry=/usr/share/cargo/registry
+. "$root/compare/published.sh"
 
-# num-traits, the files' one dependency, as Debian packages its source.
-num_traits() { ls -d "$registry"/num-traits-0.2* 2>/dev/null | tail -n 1; }
 if [ -z "$(num_traits)" ]; then
     apt-get update
     apt-get install -y --no-install-recommends librust-num-traits-dev
@@ -27,16 +25,7 @@ cp "$root/compare/physdes/lib.rs" "$out/physdes/lib.rs"
 
 compile() { rustc -O -C overflow-checks=on --out-dir "$out" -L dependency="$out" "$@"; }
 
-# Its build script asks which of these the compiler has; every one is older than edition 2021.
-nt=$(num_traits)
-edition=$(sed -n 's/^edition = "\(.*\)"/\1/p' "$nt/Cargo.toml")
-compile --crate-type rlib --crate-name num_traits --edition "${edition:-2015}" --cap-lints allow \
-    --cfg 'feature="std"' --cfg has_i128 --cfg has_to_int_unchecked --cfg has_reverse_bits \
-    --cfg has_leading_trailing_ones --cfg has_int_assignop_ref --cfg has_div_euclid --cfg has_copysign \
-    "$nt/src/lib.rs"
-compile --crate-type rlib --crate-name physdes --edition 2021 --cap-lints allow \
-    --extern num_traits="$out/libnum_traits.rlib" "$out/physdes/lib.rs"
-
+compile_published "$out/physdes/lib.rs"
 compile --crate-name oracle --edition 2021 --extern physdes="$out/libphysdes.rlib" "$root/compare/driver/oracle.rs"
 
 # `build.sh leaves` and `build.sh calls` link a static library of ours too: the leaf crates' calls, or the router's.
