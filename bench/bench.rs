@@ -1,4 +1,4 @@
-//! Our router (libexports_c.a) and the published Rust, on the same jobs, in one process. usage: bench ROUNDS
+//! Our router (libexports.a) and the published Rust, on the same jobs, in one process. usage: bench ROUNDS
 //!
 //! A row is a mode, a number of keepouts and an answer: 8 jobs of 120 terminals. Each job is routed by both in turn, ROUNDS times,
 //! and each side's figure is the least time of each job, averaged over the jobs: on a machine with others at work the least is what

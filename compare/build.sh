@@ -30,11 +30,11 @@ compile --crate-name oracle --edition 2021 --extern physdes="$out/libphysdes.rli
 
 # `build.sh leaves` and `build.sh calls` link a static library of ours too: the leaf crates' calls, or the router's.
 linked() {
-    lib=$(static_library "$2")
+    lib=$("$root/staticlib.sh" "$2")
     compile --crate-name "$1" --edition 2021 --extern physdes="$out/libphysdes.rlib" \
         -L native="$lib" -l static="$2" "$root/compare/driver/$1.rs"
 }
 case ${1:-} in
-leaves) linked leaves leaf_calls_c ;;
-calls) linked calls exports_c ;;
+leaves) linked leaves leaf_calls ;;
+calls) linked calls exports ;;
 esac

@@ -1,11 +1,5 @@
-# What compare/build.sh and bench/run.sh share. The caller has $root, and for compile_published `compile`, which puts what it makes into $out.
-
-# A static library of ours: proves and builds it, and prints the folder that it lies in.
-static_library() { # CRATE
-    (cd "$root/crates/$1" && rt lib) >&2 && echo "$root/crates/$1/out"
-}
-
-# The published Rust's one dependency, num-traits, as Debian packages its source.
+# What compare/build.sh and bench/run.sh share: the published Rust and its one dependency, num-traits, as Debian packages its source. The caller has
+# `compile`, which puts what it makes into $out.
 num_traits() { ls -d /usr/share/cargo/registry/num-traits-0.2* 2>/dev/null | tail -n 1; }
 
 compile_published() { # ROOT FILE of the published files

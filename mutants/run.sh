@@ -3,13 +3,14 @@
 # usage: mutants/run.sh [CRATE...]
 # A wrong program, mutants/CRATE/NAME.edit, must be refused. One that does the same, mutants/equivalent/CRATE/NAME.edit, must be
 # proved. The edits have the form of must-fail edits (rt doc); their second line has the kind.
+# With mutants/by_place/CRATE/NAME.edit CRATE must still be proved, and its caller by_place refused (docs/MUTANTS.md).
 # All is done on a copy outside the repository: the gate refuses a source file that is no crate's, and the crates' own must-fail edits
 # are left alone. `rt must-fail` begins with what `rt check` kept of the same crates, and remembers what it tried.
 set -euo pipefail
 root=$(cd "$(dirname "$0")/.." && pwd)
 cd "$root/mutants"
 
-# The crates asked for, else all that have mutants.
+# The crates asked for, else all that have mutants. by_place: the edits of the crates that it calls.
 if [ $# -eq 0 ]; then
     mapfile -t all < <(find . -name '*.edit' | sed 's|^\./||; s|^equivalent/||; s|/.*||' | sort -u)
     set -- "${all[@]}"
@@ -35,6 +36,14 @@ for crate in "$@"; do
     done
 done
 
+# A row of the table: CRATE NAME FILE OUTCOME PLACE
+row() {
+    local does kind
+    does=$(sed -n '1s/^# //p' "$3" | sed 's/\. .*/./')
+    kind=$(sed -n 's/^# kind: //p' "$3")
+    echo "| $1 | $2 | $does | $kind | $4 | $5 |"
+}
+
 echo '| crate | mutant | what it does | kind | outcome | first error |'
 echo '|---|---|---|---|---|---|'
 refused=0 equivalent=0
@@ -53,11 +62,40 @@ while IFS= read -r line; do
     *:refused*) outcome=refused refused=$((refused + 1)) ;;
     *) outcome="UNEXPECTED: $answer" ;;
     esac
-    file=$copy/crates/$crate/must-fail/$label.edit
-    does=$(sed -n '1s/^# //p' "$file" | sed 's/\. .*/./')
-    kind=$(sed -n 's/^# kind: //p' "$file")
-    echo "| $crate | $name | $does | $kind | $outcome | $place |"
+    row "$crate" "$name" "$copy/crates/$crate/must-fail/$label.edit" "$outcome" "$place"
 done < <(cd "$copy" && { rt must-fail "$@" 2>&1 || true; })
+
+# Those that only a caller refuses, one after the other. dev.py puts an edit into a text.
+for edit in by_place/*/*.edit; do
+    [[ " $* " == *' by_place '* && -f $edit ]] || continue
+    edits=$((edits + 1))
+    crate=$(basename "$(dirname "$edit")") place=
+    source=$copy/crates/$crate/src/lib.rt
+    python3 -B - "$root" "$edit" "$source" <<'END'
+import sys
+
+root, edit, path = sys.argv[1:]
+sys.path.insert(0, root)
+import dev
+
+texts = {"src/lib.rt": dev.read(path)}
+dev.edited(edit, texts)
+with open(path, "w", encoding="utf-8") as file:
+    file.write(texts["src/lib.rt"])
+END
+    if ! said=$(cd "$copy/crates/$crate" && rt check 2>&1); then
+        outcome="UNEXPECTED: $crate is not proved"
+    elif said=$(cd "$copy/crates/by_place" && rt check 2>&1); then
+        outcome="UNEXPECTED: by_place is proved"
+    elif [[ $said =~ fn\ (by_place::[^:]+):\ (not\ proved|no\ proof) ]]; then
+        outcome="refused in ${BASH_REMATCH[1]}" refused=$((refused + 1))
+    else
+        outcome='UNEXPECTED: by_place gets no verdict'
+    fi
+    if [[ $said =~ (src|specs|proofs)/[^:]*:[0-9]+:[0-9]+ ]]; then place=${BASH_REMATCH[0]}; fi
+    row "$crate" "$(basename "$edit" .edit)" "$edit" "$outcome" "$place"
+    cp "$root/crates/$crate/src/lib.rt" "$source"
+done
 
 unexpected=$((edits - refused - equivalent))
 echo

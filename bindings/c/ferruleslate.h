@@ -1,6 +1,6 @@
 /* Ferruleslate for C: a routing job's bytes to its text, its tree bytes or its figures.
  *
- * Link crates/exports_c/out/libexports_c.a, which `rt lib` makes in crates/exports_c (x86-64-v2). README.md has the formats.
+ * Link target/staticlib/libexports.a, which `./staticlib.sh exports` makes for x86-64-v2, and with `--cpu x86-64` for every x86-64. README.md has the formats.
  *
  * Every call:
  * - is handed a pointer and a length for each run of bytes. The pointer is not null, also where the length is 0, and the bytes

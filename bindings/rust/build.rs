@@ -1,4 +1,4 @@
-//! Links libexports_c.a, which `rt lib` makes in crates/exports_c. FERRULESLATE_LIB: its folder, if not crates/exports_c/out of the repository.
+//! Links libexports.a, which `./staticlib.sh exports` makes. FERRULESLATE_LIB: its folder, if not target/staticlib of the repository.
 
 use std::env;
 use std::path::PathBuf;
@@ -7,12 +7,12 @@ fn main() {
     let here = PathBuf::from(env::var_os("CARGO_MANIFEST_DIR").unwrap());
     let folder = match env::var_os("FERRULESLATE_LIB") {
         Some(folder) => PathBuf::from(folder),
-        None => here.join("../../crates/exports_c/out"),
+        None => here.join("../../target/staticlib"),
     };
-    let archive = folder.join("libexports_c.a");
-    assert!(archive.exists(), "no {}: make it by `rt lib` in crates/exports_c", archive.display());
+    let archive = folder.join("libexports.a");
+    assert!(archive.exists(), "no {}: make it by `./staticlib.sh exports`", archive.display());
     println!("cargo:rustc-link-search=native={}", folder.display());
-    println!("cargo:rustc-link-lib=static=exports_c");
+    println!("cargo:rustc-link-lib=static=exports");
     println!("cargo:rerun-if-changed={}", archive.display());
     println!("cargo:rerun-if-env-changed=FERRULESLATE_LIB");
 }

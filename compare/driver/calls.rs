@@ -1,4 +1,4 @@
-//! Our C calls against the Rust's router, job by job, through the static library exports_c: text, tree bytes and
+//! Our C calls against the Rust's router, job by job, through the static library of exports: text, tree bytes and
 //! figures, refusals among them; buffers past what was written, and buffers a byte too short. Usage: calls SEED CASES.
 
 #[allow(dead_code)]

@@ -1,5 +1,5 @@
 //! Our geometry and allowance against the Rust's, function by function, through the static library
-//! leaf_calls_c. Usage: leaves SEED CASES; the figures go to standard output.
+//! of leaf_calls. Usage: leaves SEED CASES; the figures go to standard output.
 
 mod random;
 

@@ -5,7 +5,7 @@ ghost use Rattle.std.specs.Prelude.{◌<◌, length, IfOk};
 ghost use Rattle.global_router.specs.Stored.{Stored};
 
 use script::Progress;
-use std::io::Result;
+use std::io::{Error, ErrorKind, Result};
 use streams::Input;
 
 // The bytes that a script may have.
@@ -39,10 +39,14 @@ fn run(rt: &HostRuntime, script: &[u8]) -> Result<()> {
     Ok(())
 }
 
+// Where standard input cannot be read, it answers nothing, says so and ends with an error. So does a failed write.
 fn main(rt: HostRuntime) -> Result<()> {
     let mut buf = [0u8; MOST_SCRIPT];
     match streams::read_input(&mut rt.reader(), &mut buf) {
         Input::Read(n) => run(&rt, &buf[..n]),
-        Input::Failed => rt.stderr().write_all(b"standard input cannot be read\n"),
+        Input::Failed => {
+            rt.stderr().write_all(b"standard input cannot be read\n")?;
+            Err(Error::from(ErrorKind::Other))
+        }
     }
 }

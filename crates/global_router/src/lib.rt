@@ -154,7 +154,8 @@ impl GlobalRoutingTree {
     pub fn new(source_position: Point) -> Outcome
         ensures { Outcomes (new_of source_position) result }
     {
-        if job::outside(source_position) {
+        let outside = job::outside(source_position);
+        if outside {
             return refused(tree::OUTSIDE);
         }
         let t = route::source_alone(source_position);

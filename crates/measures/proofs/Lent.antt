@@ -15,13 +15,12 @@ use Rattle.tree.specs.Shape.{Given}
 use Rattle.tree.specs.Memory.{point_at}
 use Rattle.search.specs.Columns.{Has, chain, Chain, Chained}
 use Rattle.search.specs.Find.{examined}
-use Rattle.joining.specs.Store.{Columns, columns_of, Store, row_at, node_from, parent_from, nodes_of, Sized, SizedStore}
-use Rattle.joining.specs.Standing.{Stands}
+use Rattle.joining.specs.Store.{Columns, row_at, node_from, parent_from, nodes_of}
 use Rattle.joining.proofs.Agree.{child_of_lem}
-use Rattle.joining.proofs.Reading.{children_are, nodes_are, sized-columns}
+use Rattle.joining.proofs.Reading.{children_are, nodes_are}
 use Rattle.tree.proofs.Linking.{child_in, parent_in_lem}
 use Rattle.tree.proofs.Forming.{terminals-few}
-use Rattle.measures.specs.Standing.{Numbered, Held}
+use Rattle.measures.specs.Standing.{Held}
 
 pub record Read (ns : List Node) (c : Columns) (n : ℕ) : Type 0 where
   pub size : length ns ≡ n
@@ -37,24 +36,12 @@ pub record Read (ns : List Node) (c : Columns) (n : ℕ) : Type 0 where
   -- "a new Steiner number would pass 250" is refused, so a number is a byte
   pub numbers : (i : ℕ) → i < n → number_of (node_at ns i).name ≤ most_nodes
 
-module _ {st : Store} {n : ℕ} (held : Held n st) where
-  abbrev c : Columns
-  c = columns_of st
-
-  abbrev s : Stands Numbered held.counts st
-  s = held.stands
-
-  size : length s.tree.nodes ≡ n
-  size = s.stores.size ∙ held.size
-
-  sized : Sized most_nodes c
-  sized = sized-columns (subst (λ (m : ℕ). SizedStore m st) held.full s.sized)
-
+module _ {c : Columns} {n : ℕ} (s : Held n c) where
   here : (i : ℕ) → i < n → i < length s.tree.nodes
-  here i h = omega (arith, size)
+  here i h = omega (arith, s.size)
 
   kids_are : (p : ℕ) → p < n → chain c.prev (get_or c.last p 0) ≡ examined s.tree.nodes p
-  kids_are p h = children_are s.tree s.formed (omega (arith, size, held.few)) most_nodes c sized s.stores.keeps (omega (arith, size, held.few)) p (here p h)
+  kids_are p h = children_are s.tree s.formed (omega (arith, s.size, s.few)) (length c.rows.xs) c s.sized s.keeps (omega (arith, s.size, s.room)) p (here p h)
 
   number-low : (i : ℕ) → i < n → number_of (node_at s.tree.nodes i).name ≤ most_nodes
   number-low zero h = omega (arith, ap number_of s.formed.named.source_name)
@@ -62,29 +49,29 @@ module _ {st : Store} {n : ℕ} (held : Held n st) where
     where
       by : (x : Name) → Given s.tree.next_steiner s.tree.next_terminal x → number_of x ≤ most_nodes
       by source g = omega arith
-      by (steiner k) g = omega (arith, s.when, g.1)
-      by (terminal k) g = omega (arith, held.few, size, terminals-few s.formed, g.1)
+      by (steiner k) g = omega (arith, s.numbers, g.1)
+      by (terminal k) g = omega (arith, s.few, s.size, terminals-few s.formed, g.1)
 
   read_tree : Read s.tree.nodes c n
   read_tree =
       record {
-        size = size;
-        few = held.few;
-        in_prev = omega (arith, held.few, sized.prev);
-        ends = omega (arith, sized.prev, sized.few);
-        rows = λ i h. s.stores.keeps.rows i (here i h);
-        near = λ i h. subst (Within reach) (ap (λ (x : Node). x.point) (s.stores.keeps.rows i (here i h))) (s.formed.near i);
+        size = s.size;
+        few = s.few;
+        in_prev = omega (arith, s.room, s.sized.prev);
+        ends = omega (arith, s.sized.prev, s.sized.few);
+        rows = λ i h. s.keeps.rows i (here i h);
+        near = λ i h. subst (Within reach) (ap (λ (x : Node). x.point) (s.keeps.rows i (here i h))) (s.formed.near i);
         kids = kids_are;
-        links = λ p h. record { is = subst (Chain c.prev (get_or c.last p 0)) (sym (kids_are p h)) (s.stores.keeps.children p (here p h)) };
-        below = λ p x h m. omega (arith, size, child_in s.formed.linked x p (child_of_lem s.tree.nodes s.formed.linked p x (subst (Has x) (kids_are p h) m)));
+        links = λ p h. record { is = subst (Chain c.prev (get_or c.last p 0)) (sym (kids_are p h)) (s.keeps.children p (here p h)) };
+        below = λ p x h m. omega (arith, s.size, child_in s.formed.linked x p (child_of_lem s.tree.nodes s.formed.linked p x (subst (Has x) (kids_are p h) m)));
         linked = s.formed.linked;
         numbers = number-low;
       }
 
   pub nodes-same : nodes_of c n ≡ s.tree.nodes
   nodes-same =
-      ap (nodes_of c) (sym size)
-      ∙ nodes_are s.tree s.formed (omega (arith, size, held.few)) most_nodes c sized s.stores.keeps (omega (arith, size, held.few))
+      ap (nodes_of c) (sym s.size)
+      ∙ nodes_are s.tree s.formed (omega (arith, s.size, s.few)) (length c.rows.xs) c s.sized s.keeps (omega (arith, s.size, s.room))
 
   -- the columns' nodes, as they are read
   pub read : Read (nodes_of c n) c n

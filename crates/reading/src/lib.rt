@@ -2,6 +2,7 @@
 #![tactic(auto)]
 
 ghost use Rattle.std.specs.Prelude.{◌≡◌, ◌<◌};
+ghost use Rattle.tree.specs.Limits.{most_nodes};
 ghost use Rattle.tree.specs.Tree.{total};
 ghost use Rattle.tree.specs.Measures.{worst, steiner_nodes, terminal_nodes, path_to};
 ghost use Rattle.tree.specs.Memory.{name_in};
@@ -9,6 +10,7 @@ ghost use Rattle.wire.specs.Puts.{Puts};
 ghost use Rattle.output.specs.Answer.{Answers};
 ghost use Rattle.text.specs.Text.{text_of};
 ghost use Rattle.tree_bytes.specs.TreeBytes.{tree_bytes};
+ghost use Rattle.joining.specs.Store.{SizedRows};
 ghost use Rattle.tables.specs.Nodes.{Packs, Unpackable};
 ghost use Rattle.tables.specs.Table.{table_columns, table_tree, Tabled};
 ghost use Rattle.reading.specs.Paths.{PathNamed};
@@ -162,7 +164,8 @@ pub struct Rows {
 // The rows of the first n nodes.
 pub fn rows_of(nodes: [RoutingNode; tree::MOST_NODES], n: u16) -> Rows
     requires { Unpackable nodes n }
-    ensures { Packs (rows_of result) n nodes }
+    ensures packs { Packs (rows_of result) n nodes }
+    ensures sized { SizedRows most_nodes (rows_of result) }
 {
     let mut points = [0i32; joining::POINTS];
     let mut path = [0u32; tree::MOST_NODES];

@@ -15,7 +15,7 @@ use Rattle.geometry.specs.Signed.{no_way}
 use Rattle.geometry.specs.declared.Point.{Point}
 use Rattle.tree.specs.Tree.{Node, at, node_at}
 use Rattle.tree.specs.Search.{Taken, nothing, the, Best, Walk, Branch, branch, takes, join_at, judge, branches, walk, fresh, ended}
-use Rattle.tree.specs.First.{or_else, last_of, first_on, first_of}
+use Rattle.tree.specs.First.{or_else, last_of, first_on, first_taken}
 use Rattle.tree.specs.Shape.{Linked}
 use Rattle.tree.proofs.Deciding.{never, and_split, and-join}
 use Rattle.tree.proofs.Searching.{Children, not-or, own, head_child, tail_child}
@@ -140,7 +140,7 @@ module _ (ns : List Node) (g : Linked ns) (shut : Point → Point → Point → 
           absurd (omega (arith, o.best, no_nearer _ z a b link x, ltb-true (B a b).D f.best (not-or f.within _ o.within y)))
 
       -- the first in order that has the least D is what the search finds
-      pub first-within : (p c : ℕ) → first_of ns test ≡ the p c → Done true p c (ended shut ns limit allowed q)
+      pub first-within : (p c : ℕ) → first_taken ns test ≡ the p c → Done true p c (ended shut ns limit allowed q)
       unfolding judge
       first-within p c e =
           subst (λ (x : Taken). Met In (Done true) x (ended shut ns limit allowed q)) e
@@ -177,7 +177,7 @@ module _ (ns : List Node) (g : Linked ns) (shut : Point → Point → Point → 
           let r = and_split (leb (B a b).L limit) (ltb (B a b).D f.best) (and_split (not f.within) _ y).1 in
           absurd (omega (arith, o.best, no_nearer _ z a b link r.0, ltb-true (B a b).D f.best r.1))
 
-      pub first-beyond : (p c : ℕ) → first_of ns test ≡ the p c → Done false p c (ended shut ns limit allowed q)
+      pub first-beyond : (p c : ℕ) → first_taken ns test ≡ the p c → Done false p c (ended shut ns limit allowed q)
       unfolding judge
       first-beyond p c e =
           subst (λ (x : Taken). Met Out (Done false) x (ended shut ns limit allowed q)) e
@@ -201,7 +201,7 @@ module _ (ns : List Node) (g : Linked ns) (shut : Point → Point → Point → 
 
     pub first-none : ended shut ns limit allowed q ≡ fresh limit
     first-none =
-        either (first_of ns (λ a b. false))
+        either (first_taken ns (λ a b. false))
         (on_walk (λ a b. false) (λ f. f ≡ fresh limit) (λ p c f. f ≡ fresh limit) (λ a b f link h o. idle a b f link o) (λ a b f link h o. idle a b f link o) (λ p c a b f link o. idle a b f link o) (length ns) (0 ∷ []) (fresh limit) refl)
       where
         either : (x : Taken) → Met (λ f. f ≡ fresh limit) (λ p c f. f ≡ fresh limit) x (ended shut ns limit allowed q) → ended shut ns limit allowed q ≡ fresh limit

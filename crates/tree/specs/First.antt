@@ -19,5 +19,5 @@ module _ (nodes : List Node) (test : ℕ → ℕ → Bool) where
   first_on (suc k) [] = nothing
   first_on (suc k) (p ∷ rest) = or_else (last_of p (node_at nodes p).children) (first_on k ((node_at nodes p).children ++ rest))
 
-  abbrev pub first_of : Taken
-  first_of = first_on (length nodes) (0 ∷ [])
+  abbrev pub first_taken : Taken
+  first_taken = first_on (length nodes) (0 ∷ [])

@@ -17,7 +17,7 @@ ordered s p q =
     ltb (dist s p) (dist s q)
     || (eqb (dist s p) (dist s q) && (lt_z p.xcoord q.xcoord || (eq_z p.xcoord q.xcoord && le_z p.ycoord q.ycoord)))
 
--- p in its place in a sorted list. That the sorted list is in order and has each point as often is `sort-Sorted` and `times-sort` in
+-- p in its place in a sorted list. That the sorted list is in order and has each point as often is `sort_sorted` and `times-sort` in
 -- proofs/Order.antt
 unfoldable pub place : Point → Point → List Point → List Point
 place s p [] = p ∷ []

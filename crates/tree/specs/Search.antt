@@ -91,7 +91,7 @@ module _ (shut : Point → Point → Point → Point → Bool) (nodes : List Nod
   branches p (c ∷ cs) e = examine p c (branches p cs e)
 
   -- the top of the stack is popped, and its branches are examined; at most k nodes are popped, and as many as there are nodes are enough
-  -- (`Walk-Ends` in proofs/Fuel.antt)
+  -- (`walk_ends` in proofs/Fuel.antt)
   unfoldable pub walk : ℕ → List ℕ → Best → Walk
   walk zero stack f = record { found = f; stack = stack }
   walk (suc k) [] f = record { found = f; stack = [] }

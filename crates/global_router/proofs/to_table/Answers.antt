@@ -1,10 +1,6 @@
 -- `global_router::to_table`: the nodes' rows are stored, and the links stay.
 use Rattle.std.proofs.Common.{rules}
 use Rattle.geometry.specs.Signed.{In32}
-use Rattle.tree.specs.Limits.{most_nodes}
-use Rattle.joining.specs.Store.{SizedRows}
-use Rattle.joining.proofs.Blocks.{sized_rows}
-use Rattle.reading.specs.Rows.{rows_of}
 use Rattle.global_router.proofs.Unpacked.{unpackable, unpacked}
 use Rattle.global_router.proofs.to_table.Goals as goal
 
@@ -15,7 +11,5 @@ pub returns : goal.returns
 returns c =
     let r = c.rows_of-rows.result in
     let allowed : In32 c.args.g.allowed = search rules in
-    -- the lengths of the buffers are in their types
-    let sized : SizedRows most_nodes (rows_of r) = sized_rows r.points r.path r.marks (search rules) (search rules) (search rules) in
-    let both = unpacked c.args.g c.requires r c.rows_of-rows.ensures sized _ c.counts_of-k.ensures allowed in
+    let both = unpacked c.args.g c.requires r c.rows_of-rows.ensures.packs c.rows_of-rows.ensures.sized _ c.counts_of-k.ensures allowed in
     record { is = both.0; tabled = both.1 }

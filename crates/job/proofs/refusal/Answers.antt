@@ -2,6 +2,7 @@
 use Rattle.std.proofs.Common.{◌≡◌, ◌<◌, ◌≤◌, ◌≢◌, ℕ, List, Bool, true, false, refl, sym, ap, ◌∙◌, not, ◌||◌, ltb, eqb, length, arith, lt-ltb, le-ltb, eq-eqb, ne_eqb}
 use Rattle.geometry.proofs.Chains.{or-stop, or_then}
 use Rattle.tree.specs.Limits.{most_terminals, most_keepouts}
+use Rattle.tree.proofs.Deciding.{or_right}
 use Rattle.job.specs.Layout.{header_size, size_of}
 use Rattle.job.specs.Job.{read_job, terminal_count, keepout_count, too_many, wrong_length, wrong_offset, wrong_mode, far_out, bad_keepout}
 use Rattle.job.specs.Reading.{refusal_number}
@@ -29,19 +30,18 @@ module _ (b : List ℕ) where
     terminals_many : most_terminals < t → 2 ≡ refusal_number (read_job b)
     terminals_many m = gives 2 _ (at_2 h) (many (sym (or-stop _ refl (lt-ltb most_terminals t m))))
 
-    module _ (ht : t ≤ most_terminals) where
-      keepouts_many : most_keepouts < k → 2 ≡ refusal_number (read_job b)
-      keepouts_many m = gives 2 _ (at_2 h) (many (sym (or_then refl (le-ltb most_terminals t ht) (sym (lt-ltb most_keepouts k m)))))
+    keepouts_many : most_keepouts < k → 2 ≡ refusal_number (read_job b)
+    keepouts_many m = gives 2 _ (at_2 h) (many (or_right _ _ (lt-ltb most_keepouts k m)))
 
-      module _ (hk : k ≤ most_keepouts) where
-        at_length : read_job b ≡ from_length b
-        at_length = at_2 h ∙ pass _ _ (many (sym (or_then refl (le-ltb most_terminals t ht) (sym (le-ltb most_keepouts k hk)))))
+    module _ (ht : t ≤ most_terminals) (hk : k ≤ most_keepouts) where
+      at_length : read_job b ≡ from_length b
+      at_length = at_2 h ∙ pass _ _ (many (sym (or_then refl (le-ltb most_terminals t ht) (sym (le-ltb most_keepouts k hk)))))
 
-        length_wrong : length b ≢ size_of t k → 1 ≡ refusal_number (read_job b)
-        length_wrong n = gives 1 _ at_length (length_test (ap not (ne_eqb (length b) (size_of t k) n)))
+      length_wrong : length b ≢ size_of t k → 1 ≡ refusal_number (read_job b)
+      length_wrong n = gives 1 _ at_length (length_test (ap not (ne_eqb (length b) (size_of t k) n)))
 
-        at_3 : length b ≡ size_of t k → read_job b ≡ from_3 b
-        at_3 e = at_length ∙ pass _ _ (length_test (ap not (eq-eqb (length b) (size_of t k) e)))
+      at_3 : length b ≡ size_of t k → read_job b ≡ from_3 b
+      at_3 e = at_length ∙ pass _ _ (length_test (ap not (eq-eqb (length b) (size_of t k) e)))
 
   at_4 : read_job b ≡ from_3 b → wrong_offset b ≡ false → read_job b ≡ from_4 b
   at_4 r e = r ∙ pass _ _ e
@@ -59,7 +59,7 @@ pub returns-then-many_terminals : goal.returns-then-many_terminals
 returns-then-many_terminals c = terminals_many c.args.s.now c.terminal_count-t.ensures c.keepout_count-k.ensures (omega arith) (omega arith)
 
 pub returns-then-many_keepouts : goal.returns-then-many_keepouts
-returns-then-many_keepouts c = keepouts_many c.args.s.now c.terminal_count-t.ensures c.keepout_count-k.ensures (omega arith) (omega arith) (omega arith)
+returns-then-many_keepouts c = keepouts_many c.args.s.now c.terminal_count-t.ensures c.keepout_count-k.ensures (omega arith) (omega arith)
 
 pub returns-then-wrong_length : goal.returns-then-wrong_length
 returns-then-wrong_length c =

@@ -44,8 +44,12 @@ bounds-marks-at c = let a = c.args in omega (arith, c.wide-at.ensures, in_most a
 pub bounds-links-at : goal.bounds-links-at
 bounds-links-at c = let a = c.args in omega (arith, c.wide-at.ensures, in_most a.points.now a.path.now a.marks.now a.links.now _ _ c.requires)
 
+-- c by its bounds alone, which i has too: which node takes the place is for `returns`
 pub bypass-requires : goal.bypass-requires
-bypass-requires c = let a = c.args in goes_past a.points.now a.path.now a.marks.now a.links.now _ _ c.requires c.wide-at.ensures
+bypass-requires c =
+    let a = c.args in
+    let b = goes_past a.points.now a.path.now a.marks.now a.links.now _ _ c.requires c.wide-at.ensures in
+    record { sized = b.sized; in_i = b.in_i; in_p = b.in_p; in_c = omega arith; linked = b.linked; has = b.has; backed = b.backed }
 
 pub close_up-requires : goal.close_up-requires
 close_up-requires c = let a = c.args in closes a.points.now a.path.now a.marks.now a.links.now _ _ c.requires c.wide-at.ensures _ c.wide-n.ensures

@@ -9,7 +9,7 @@ pub loop-k-init : goal.loop-k-init
 loop-k-init c = (omega arith, left-all _ _ _ (omega arith) (omega arith))
 
 pub loop-k-preserved : goal.loop-k-preserved
-loop-k-preserved c = (omega arith, left_less c.loop-k.invariant.1 (bytes_step _ _ c.loop-k-test.true) c.put-p.ensures)
+loop-k-preserved c = (omega arith, left_less c.loop-k.invariant.1 (bytes_step c.args.s.now c.loop-k.k (omega arith)) c.put-p.ensures)
 
 pub returns : goal.returns
 returns c = left-none c.loop-k.invariant.1 (drop_of_length-le _ c.loop-k-test.false)
