@@ -54,12 +54,21 @@ def below(name, uses, found=None):
     return found
 
 
+def name_of(text):
+    """The words of a type, each with a capital, without lifetimes."""
+    text = re.sub(r"'\w+", "", text).replace("&", " ref ")
+    return "".join(it[0].upper() + it[1:] for it in re.findall(r"\w+", text))
+
+
 def holes(crate):
     """A proof with a hole for each function of the crate, by its path. It goes by the layout of `rt fmt`."""
     texts, owner, cycle = {}, "", ""
     for file in sorted(os.listdir(f"crates/{crate}/src")):
         for line in read(f"crates/{crate}/src/{file}").splitlines():
-            if told := re.match(r"impl(?:<.*?>)? (\w+)", line):
+            if told := re.match(r"impl(?:<.*?>)? (?:\w+::)*(\w+)(<.*>)? for (.*?) \{", line):
+                # The proofs' name of such an impl: the type's words, the trait's name, its arguments' words.
+                owner = name_of(told[3]) + told[1] + name_of(told[2] or "") + "/"
+            elif told := re.match(r"impl(?:<.*?>)? (\w+)", line):
                 owner = f"{told[1]}/"
             elif line == "}":
                 owner = ""

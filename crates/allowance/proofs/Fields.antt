@@ -2,19 +2,20 @@
 -- `magnitude` and `signed`, what its value rounds to. A field of 0 has no leading digit, but then the value is far below a half,
 -- with the digit or without; infinity reads as 2 ^ 1024, which clamps alike. Assumes nothing.
 use mathlib.Core.Path.{◌≡◌, refl, sym, ap, ◌∙◌, subst}
-use mathlib.Core.Bool.{Bool, true, false, not, cond, true≢false}
+use mathlib.Core.Bool.{Bool, true, false, not, cond}
 use Prim.Native.Nat.{ℕ, zero, suc, ◌+◌, ◌*◌, ◌/◌, ◌%◌, ◌^◌, ◌<◌}
 use native.Mathlib.Nat.{lt_of_lt_of_le, mul_assoc, mod-lt, pow-suc, pow-succ'}
 use native.Mathlib.Omega.{arith}
 use lib.IntN.{pos}
 use lib.Dec.{T, leb, eqb, lit<, lit≤, eqb→eq}
 use lib.Pow.{pow_pos}
-use lib.Ieee.{Float, nan, inf, fin, binary64, up, down, odd, fits, is_nan, of_fields, of_bits, to_bits, ne, to_signed}
+use lib.Ieee.{Float, nan, inf, fin, binary64, up, down, odd, fits, is_nan, of_fields, of_bits, to_bits, to_signed}
 use lib.Ieee.Fits.{down_pos}
 use lib.Ieee.Bits.{of_bits-to_bits}
 use lib.Ieee.Exact.{HasValue, odd_sign}
 use Rattle.allowance.specs.Allowance.{half_up, rounded, to_i32}
 use Rattle.allowance.proofs.Half.{half-same, half-none}
+use Rattle.allowance.proofs.Patterns.{only_nan}
 use Rattle.allowance.proofs.Ranges.{size, size_none}
 use Rattle.allowance.proofs.Clamp.{clamped, clamped_min}
 
@@ -87,13 +88,9 @@ by_pattern p f n =
     sym (of_fields_lem (leb (2 ^ 63) b) (b % 2 ^ 63 / 2 ^ 52) (b % 2 ^ 52) (mod-lt b (pow_pos 52)) (subst (λ (v : Float). T (not (is_nan v))) (sym is) n))
     ∙ ap (λ (v : Float). to_i32 (rounded v)) is
 
--- the test `p != p`
-pub no_nan : (p : Float) → ne p p ≡ false → T (not (is_nan p))
-unfolding ne is_nan
-no_nan nan h = absurd (true≢false h)
-no_nan (inf s) h = tt
-no_nan (fin s m e) h = tt
-
-pub nan-zero : pos 0 ≡ to_i32 (rounded nan)
+nan-zero : pos 0 ≡ to_i32 (rounded nan)
 unfolding rounded to_signed
 nan-zero = refl
+
+pub from_nan : (p : Float) → true ≡ is_nan p → pos 0 ≡ to_i32 (rounded p)
+from_nan p h = nan-zero ∙ ap (λ (v : Float). to_i32 (rounded v)) (only_nan p (sym h))

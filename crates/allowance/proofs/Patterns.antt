@@ -14,7 +14,7 @@ zero_by_zero : div binary64 (of_bits binary64 0) (of_bits binary64 0) ≡ nan
 unfolding div of_bits
 zero_by_zero = refl
 
-only_nan : (x : Float) → is_nan x ≡ true → nan ≡ x
+pub only_nan : (x : Float) → is_nan x ≡ true → nan ≡ x
 unfolding is_nan
 only_nan nan h = refl
 only_nan (inf s) h = absurd (false≢true h)

@@ -1,6 +1,6 @@
 // The allowance: Rust's `(w as f64 * m).round() as i32`, for every `u32` w and every `f64` m.
-// Rattle has no `round`, and casts a float to an integer only where nothing is lost, so both are rebuilt from the bits of the one
-// product: an `f64` with the biased exponent e and the 52 trailing digits t is (2^52 + t) * 2^(e - 1075).
+// Rounding and cast are rebuilt from the bits of the one product, and not made by the library's `round`: a rule of the project.
+// An `f64` with the biased exponent e and the 52 trailing digits t is (2^52 + t) * 2^(e - 1075).
 #![tactic(auto)]
 
 ghost use Rattle.std.specs.Prelude.{◌≡◌, ◌+◌, ◌*◌, ◌^◌, ◌<◌, ◌≤◌, min, pos};
@@ -9,13 +9,13 @@ ghost use Rattle.std.specs.Float.Ieee.{of_bits};
 ghost use Rattle.allowance.specs.Allowance.{half_up, rounded, to_i32, allowed_of};
 
 // The bit of the sign.
-const SIGN: u64 = 0x8000_0000_0000_0000;
+const SIGN: u64 = 1 << 63;
 
 // The pattern of infinity: each larger one, without its sign, is a NaN's.
 const INFINITY: u64 = 0x7ff0_0000_0000_0000;
 
 // 2^52: the leading digit, which the pattern leaves out, and the weight of the exponent's field.
-const LEADING: u64 = 0x10_0000_0000_0000;
+const LEADING: u64 = 1 << 52;
 
 // The biased exponent of 0.5.
 const OF_HALF: u64 = 1022;
@@ -27,7 +27,7 @@ const OF_LIMIT: u64 = 1054;
 const OF_LAST_HALF: u64 = 1074;
 
 // 2^31: no `i32` has a larger magnitude.
-const LIMIT: u64 = 0x8000_0000;
+const LIMIT: u64 = 1 << 31;
 
 // The `f64` of any 64 bits. `f64::from_bits` is not defined at a NaN's pattern, and all those patterns are one NaN.
 #[tactic(auto, using(crate::proofs::Patterns::patterns))]
@@ -35,7 +35,7 @@ pub fn f64_of_bits(b: u64) -> f64
     ensures { result ≡ of_bits binary64 b }
 {
     if b % SIGN > INFINITY {
-        0.0 / 0.0
+        f64::NAN
     } else {
         f64::from_bits(b)
     }
@@ -47,12 +47,10 @@ fn magnitude(biased: u64, trailing: u64) -> u64
     requires { trailing < 2 ^ 52 }
     ensures { result ≡ min (half_up ((2 ^ 52 + trailing) * 2 ^ biased) (2 ^ 1075)) (2 ^ 31) }
 {
-    if biased < OF_HALF {
-        0
-    } else if biased < OF_LIMIT {
-        (((LEADING + trailing) >> (OF_LAST_HALF - biased)) + 1) / 2
-    } else {
-        LIMIT
+    match biased {
+        ..OF_HALF => 0,
+        OF_HALF..OF_LIMIT => (((LEADING + trailing) >> (OF_LAST_HALF - biased)) + 1) / 2,
+        _ => LIMIT,
     }
 }
 
@@ -63,29 +61,23 @@ fn signed(negative: bool, size: u64) -> i32
     ensures { result ≡ to_i32 (fin negative size (pos 0)) }
 {
     if negative {
-        if size == 0 {
-            0
-        } else {
-            -1 - ((size - 1) as i32)
-        }
-    } else if size < LIMIT {
-        size as i32
+        -(size as i64) as i32
     } else {
-        2147483647
+        size.min(LIMIT - 1) as i32
     }
 }
 
 // `p.round() as i32`.
+#[tactic(auto, using(crate::proofs::Fields::from_nan))]
 pub fn round_to_i32(p: f64) -> i32
     ensures { result ≡ to_i32 (rounded p) }
 {
-    if p != p {
-        0
-    } else {
-        let bits: u64 = f64::to_bits(p);
-        let size = magnitude(bits % SIGN / LEADING, bits % LEADING);
-        signed(bits >= SIGN, size)
+    if p.is_nan() {
+        return 0;
     }
+    let bits = p.to_bits();
+    let size = magnitude(bits % SIGN / LEADING, bits % LEADING);
+    signed(bits >= SIGN, size)
 }
 
 // `(w as f64 * m).round() as i32`.
@@ -93,7 +85,7 @@ pub fn round_to_i32(p: f64) -> i32
 pub fn allowed(w: u32, m: f64) -> i32
     ensures { result ≡ allowed_of w m }
 {
-    round_to_i32((w as f64) * m)
+    round_to_i32(f64::from(w) * m)
 }
 
 // The same, with the multiplier by its 64 bits, as a job has it.

@@ -4,13 +4,15 @@ use mathlib.Core.Path.{◌≡◌, refl, sym, ap, subst, ◌∙◌}
 use mathlib.Core.Logic.{◌⊎◌, inl, inr, ⊎_elim}
 use mathlib.Core.List.{List, [], ◌∷◌, ◌++◌}
 use Prim.Native.Nat.{ℕ, zero, suc, ◌+◌, ◌-◌, ◌*◌, ◌≤◌, ◌<◌, ◌/◌, ◌%◌, ◌^◌}
-use native.Mathlib.Nat.{mod-eq_of_lt, div-div-eq-div-mul, mul-add-mod_self_left, div-add-mod, mod-lt, mul_assoc}
+use native.Mathlib.Nat.{mod-eq_of_lt, div-div-eq-div-mul, mul-add-mod_self_left, div-add-mod, mod-lt, mul_assoc, pow-succ', one-le-pow}
 use native.Mathlib.Omega.{arith}
 use lib.ListN.{length}
 use borrow.Author.Tests.{lt-ltb, le-ltb}
 use Rattle.decimal.specs.Decimal.{digits, decimal_of}
 use Rattle.decimal.specs.Padded.{padded, Sized}
-use Rattle.decimal.proofs.Powers.{ten_up, ten_some}
+
+ten_some : (k : ℕ) → 1 ≤ 10 ^ k
+ten_some k = one-le-pow k 10 (omega arith)
 
 -- ---- a turn of `put_digits`, with k digits left of n
 pub padded-none : (k n : ℕ) → k ≤ 0 → padded k n ≡ []
@@ -51,9 +53,9 @@ unfolding padded
 padded-last zero n h = let e : n / 1 ≡ n % 10 = omega arith in ap (λ (z : ℕ). (48 + z) ∷ []) e
 padded-last (suc j) n h =
     let i = padded-last j (n % 10 ^ suc j) (mod-lt n (ten_some (suc j))) in
-    let e : n / 10 ^ suc j ≡ n / 10 / 10 ^ j = ap (λ (z : ℕ). n / z) (ten_up j) ∙ sym (div-div-eq-div-mul n 10 (10 ^ j)) in
-    let f : n % 10 ^ suc j / 10 ≡ n / 10 % 10 ^ j = ap (λ (z : ℕ). n % z / 10) (ten_up j) ∙ cut_div (10 ^ j) n (ten_some j) in
-    let g : n % 10 ^ suc j % 10 ≡ n % 10 = ap (λ (z : ℕ). n % z % 10) (ten_up j) ∙ cut_mod (10 ^ j) n in
+    let e : n / 10 ^ suc j ≡ n / 10 / 10 ^ j = ap (λ (z : ℕ). n / z) (pow-succ' 10 j) ∙ sym (div-div-eq-div-mul n 10 (10 ^ j)) in
+    let f : n % 10 ^ suc j / 10 ≡ n / 10 % 10 ^ j = ap (λ (z : ℕ). n % z / 10) (pow-succ' 10 j) ∙ cut_div (10 ^ j) n (ten_some j) in
+    let g : n % 10 ^ suc j % 10 ≡ n % 10 = ap (λ (z : ℕ). n % z % 10) (pow-succ' 10 j) ∙ cut_mod (10 ^ j) n in
     (λ t. (48 + e t) ∷ i t) ∙ (λ t. ((48 + n / 10 / 10 ^ j) ∷ padded j (f t)) ++ ((48 + g t) ∷ []))
 
 -- ---- by repeated division: a number of k + 1 digits, with any bound above k
@@ -62,9 +64,9 @@ unfolding digits
 digits_is f zero n b h o = rw (lt-ltb n 10 h) (sym (padded-last 0 n h ∙ ap (λ (xs : List ℕ). xs ++ ((48 + n % 10) ∷ [])) (padded-none 0 (n / 10) (omega arith))))
 digits_is zero (suc j) n b h o = absurd (omega arith)
 digits_is (suc f) (suc j) n b h o =
-    let many : 10 * 10 ^ j ≤ n = ⊎_elim (λ z. absurd (omega arith)) (λ z. omega (arith, ten_up j)) o in
+    let many : 10 * 10 ^ j ≤ n = ⊎_elim (λ z. absurd (omega arith)) (λ z. omega (arith, pow-succ' 10 j)) o in
     let some : 1 ≤ 10 ^ j = ten_some j in
-    let few : n / 10 < 10 ^ suc j = omega (arith, ten_up (suc j)) in
+    let few : n / 10 < 10 ^ suc j = omega (arith, pow-succ' 10 (suc j)) in
     let i : digits (suc f) (n / 10) ≡ padded (suc j) (n / 10) = digits_is f j (n / 10) (omega arith) few (inr (omega arith)) in
     rw (le-ltb n 10 (omega arith)) (ap (λ (xs : List ℕ). xs ++ ((48 + n % 10) ∷ [])) i ∙ sym (padded-last (suc j) n h))
 

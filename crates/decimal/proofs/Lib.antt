@@ -1,4 +1,3 @@
-mod Powers
 mod FromFirst
 mod Sign
 mod Whole

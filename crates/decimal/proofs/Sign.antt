@@ -1,48 +1,29 @@
--- The sign of an i32, as the test `z < 0` finds it on the bits, and what it says of the text and of the magnitude. Assumes nothing.
-use mathlib.Core.Path.{◌≡◌, refl, sym, ap, ◌∙◌}
-use mathlib.Core.Bool.{Bool, true, false, true≢false}
-use mathlib.Core.List.{◌∷◌}
-use Prim.Native.Nat.{ℕ}
-use native.Mathlib.Omega.{arith}
-use lib.IntN.{ℤ, pos, negsuc, nat_abs}
-use lib.Signed.{lt_z, mag}
-use borrow.Author.Tests.{ltb-true}
-use mir.Syntax.{w32}
-use mir.Val.{SFits, to_z, of_z}
-use mir.ValLaws.{to_z-of_z}
+-- The sign of an integer, as the test `z < 0` finds it, and what it says of the text. Assumes nothing.
+use Rattle.std.proofs.Common.{◌≡◌, refl, sym, ap, ◌∙◌, ℕ, ◌+◌, List, [], ◌∷◌, length, true, false, arith, le-ltb}
+use Rattle.std.specs.Prelude.{ℤ, pos, negsuc, nat_abs, int_lt}
+use Rattle.std.specs.Int.{from_bool}
+use Rattle.wire.specs.Puts.{Puts, puts_then, puts_as}
 use Rattle.decimal.specs.Decimal.{decimal_of, int_text}
 
--- `mag z` is n both for n and for -(n + 1)
-minus_is : (z : ℤ) → lt_z z (pos 0) ≡ true → z ≡ negsuc (mag z)
-minus_is (pos n) e = absurd (omega (arith, ltb-true n 0 e))
-minus_is (negsuc n) e = refl
+no_sign : (n : ℕ) → int_lt (pos n) (pos 0) ≡ false
+no_sign n = le-ltb n 0 (omega arith)
 
-plain_is : (z : ℤ) → lt_z z (pos 0) ≡ false → z ≡ pos (mag z)
-plain_is (pos n) e = refl
-plain_is (negsuc n) e = absurd (true≢false e)
+pub text_length : (z : ℤ) → length (int_text z) ≡ length (decimal_of (nat_abs z)) + from_bool (int_lt z (pos 0))
+unfolding int_text
+text_length (pos n) = rw (no_sign n) (omega arith)
+text_length (negsuc n) = omega arith
 
--- z as the code holds it
-abbrev pub held : ℤ → ℤ
-held z = to_z w32 (of_z w32 z)
+pub plain_text : (z : ℤ) → int_lt z (pos 0) ≡ false → int_text z ≡ decimal_of (nat_abs z)
+unfolding int_text
+plain_text (pos n) e = refl
+plain_text (negsuc n) e = cc
 
-module _ (z : ℤ) (f : SFits w32 z) where
-  pub home : held z ≡ z
-  home = to_z-of_z w32 z f
+pub minus_text : (z : ℤ) → int_lt z (pos 0) ≡ true → int_text z ≡ 45 ∷ decimal_of (nat_abs z)
+unfolding int_text
+minus_text (pos n) e = let f = no_sign n in cc
+minus_text (negsuc n) e = refl
 
-  sign : {b : Bool} → lt_z (held z) (pos 0) ≡ b → lt_z z (pos 0) ≡ b
-  sign e = ap (λ (y : ℤ). lt_z y (pos 0)) (sym home) ∙ e
-
-  pub minus : lt_z (held z) (pos 0) ≡ true → held z ≡ negsuc (mag z)
-  minus e = home ∙ minus_is z (sign e)
-
-  pub plain : lt_z (held z) (pos 0) ≡ false → held z ≡ pos (mag z)
-  plain e = home ∙ plain_is z (sign e)
-
-  -- m is what `unsigned_abs` gives
-  pub minus_text : {m : ℕ} → m ≡ nat_abs (held z) → lt_z (held z) (pos 0) ≡ true → 45 ∷ decimal_of m ≡ int_text z
-  unfolding int_text
-  minus_text a e = ap (λ (k : ℕ). 45 ∷ decimal_of k) (a ∙ ap nat_abs (minus e)) ∙ ap int_text (sym (minus_is z (sign e)))
-
-  pub plain_text : {m : ℕ} → m ≡ nat_abs (held z) → lt_z (held z) (pos 0) ≡ false → decimal_of m ≡ int_text z
-  unfolding int_text
-  plain_text a e = ap decimal_of (a ∙ ap nat_abs (plain e)) ∙ ap int_text (sym (plain_is z (sign e)))
+-- a minus sign, and then the digits of m, the magnitude
+pub puts_minus : {l l' l'' : List ℕ} {at p r : ℕ} (z : ℤ) (m : ℕ) → int_lt z (pos 0) ≡ true → m ≡ nat_abs z
+    → Puts l at (45 ∷ []) l' p → Puts l' p (decimal_of m) l'' r → Puts l at (int_text z) l'' r
+puts_minus z m e f a b = puts_as (puts_then a b) (ap (λ (k : ℕ). 45 ∷ decimal_of k) f ∙ sym (minus_text z e))

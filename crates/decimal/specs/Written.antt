@@ -1,9 +1,7 @@
 -- What `write_i32` answers and leaves. Document 01: "11, an output buffer shorter than what is to be written", and then "all lent bytes
 -- are then as before"; "Success leaves bytes past the written ones unchanged." Definitions only.
-use Rattle.std.specs.Prelude.{Bool, cond, List, ◌++◌, ℕ, ◌+◌, leb, ℤ, length, take, drop}
+use Rattle.std.specs.Prelude.{Bool, cond, List, ◌++◌, ℕ, ◌+◌, leb, ℤ, length, take, drop, Option, Some, None}
 use Rattle.decimal.specs.Decimal.{int_text}
-use Rattle.decimal.specs.declared.Written.{Written}
-use Rattle.decimal.specs.declared.Written.TheVariants.{To, NoRoom}
 
 -- the place after the text of z at the place at
 abbrev pub after : ℕ → ℤ → ℕ
@@ -13,8 +11,8 @@ after at z = at + length (int_text z)
 abbrev pub fits : List ℕ → ℕ → ℤ → Bool
 fits l at z = leb (after at z) (length l)
 
-unfoldable pub written_of : List ℕ → ℕ → ℤ → Written
-written_of l at z = cond (fits l at z) (To (after at z)) NoRoom
+unfoldable pub written_of : List ℕ → ℕ → ℤ → Option ℕ
+written_of l at z = cond (fits l at z) (Some (after at z)) None
 
 -- the rest of the buffer is as before
 unfoldable pub buffer_after : List ℕ → ℕ → ℤ → List ℕ

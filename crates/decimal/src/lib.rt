@@ -4,24 +4,21 @@
 // `write_i32` writes the whole text or nothing.
 #![tactic(auto)]
 
-ghost use Rattle.std.specs.Prelude.{◌≡◌, ◌+◌, ◌*◌, ◌<◌, ◌≤◌, ◌^◌, ◌/◌, ◌%◌, cond, leb, nat_abs, length};
+ghost use Rattle.std.specs.Prelude.{◌≡◌, ◌+◌, ◌*◌, ◌<◌, ◌≤◌, ◌^◌, ◌/◌, ◌%◌, length};
 ghost use Rattle.wire.specs.Puts.{Puts};
 ghost use Rattle.decimal.specs.Decimal.{decimal_of, int_text};
 ghost use Rattle.decimal.specs.Padded.{padded, Sized};
 ghost use Rattle.decimal.specs.Written.{written_of, buffer_after};
 
-const ZERO: u8 = 48;
-
-const MINUS: u8 = 45;
-
 // How many digits the largest u32 has.
 const MOST_DIGITS: usize = 10;
 
 // The powers of ten, from 10^0 on.
-const POWERS: [u32; 10] = [
+const POWERS: [u32; MOST_DIGITS] = [
     1, 10, 100, 1000, 10000, 100000, 1000000, 10000000, 100000000, 1000000000,
 ];
 
+// (A table: `pow` multiplies, in a loop.)
 fn power(k: usize) -> u32
     requires { k < 10 }
     ensures { result ≡ 10 ^ k }
@@ -36,13 +33,6 @@ struct Digit {
     rest: u32,
 }
 
-// 1 if a is at most b, and 0 if not.
-fn at_most(a: u64, b: u64) -> u32
-    ensures { result ≡ cond (leb a b) 1 0 }
-{
-    if a <= b { 1 } else { 0 }
-}
-
 // The digit of m at the place of `unit`, its first: how many of 1 to 9 times `unit` are at most m. All nine are compared, whatever the digit,
 // so that no branch depends on it: a digit is hard to predict.
 fn first_digit(m: u32, unit: u32) -> Digit
@@ -50,13 +40,11 @@ fn first_digit(m: u32, unit: u32) -> Digit
     ensures { (result.byte ≡ 48 + m / unit) × (result.rest ≡ m % unit) }
 {
     let mut n: u32 = 0;
-    let mut k: u32 = 1;
-    while k < 10 {
-        n = n + at_most((k as u64) * (unit as u64), m as u64);
-        k = k + 1;
+    for k in 1..10 {
+        n += u32::from(k * u64::from(unit) <= u64::from(m));
     }
     Digit {
-        byte: ZERO + (n as u8),
+        byte: b'0' + (n as u8),
         rest: m - n * unit,
     }
 }
@@ -67,13 +55,11 @@ fn put_digits(out: &mut [u8], at: usize, m: u32, count: usize) -> usize
     ensures { Puts out.old at (padded count m) out.new result }
 {
     let mut p = at;
-    let mut k = count;
     let mut rest = m;
-    while 0 < k {
-        k = k - 1;
-        let d = first_digit(rest, power(k));
-        p = wire::put(out, p, d.byte);
-        rest = d.rest;
+    for k in (0..count).rev() {
+        let digit = first_digit(rest, power(k));
+        p = wire::put(out, p, digit.byte);
+        rest = digit.rest;
     }
     p
 }
@@ -82,73 +68,52 @@ fn put_digits(out: &mut [u8], at: usize, m: u32, count: usize) -> usize
 fn count_digits(m: u32) -> usize
     ensures { Sized m result }
 {
-    let mut n: usize = 1;
-    while n < MOST_DIGITS {
+    for n in 1..MOST_DIGITS {
         if m < power(n) {
             return n;
         }
-        n = n + 1;
     }
-    n
+    MOST_DIGITS
 }
 
 // m in decimal.
+#[tactic(auto, using(crate::proofs::FromFirst::decimal_is))]
 pub fn put_u32(out: &mut [u8], at: usize, m: u32) -> usize
     ensures { Puts out.old at (decimal_of m) out.new result }
 {
-    let n = count_digits(m);
-    put_digits(out, at, m, n)
-}
-
-// The magnitude of z. -(-2147483648) is no i32, so it goes by -1 - z, which is.
-pub fn unsigned_abs(z: i32) -> u32
-    ensures { result ≡ nat_abs z }
-{
-    if z < 0 {
-        ((-1 - z) as u32) + 1
-    } else {
-        z as u32
-    }
+    put_digits(out, at, m, count_digits(m))
 }
 
 // z in decimal.
+#[tactic(auto, using(crate::proofs::Sign::plain_text))]
 pub fn put_i32(out: &mut [u8], at: usize, z: i32) -> usize
     ensures { Puts out.old at (int_text z) out.new result }
 {
-    let m = unsigned_abs(z);
+    let m = z.unsigned_abs();
     if z < 0 {
-        let p = wire::put(out, at, MINUS);
+        let p = wire::put(out, at, b'-');
         return put_u32(out, p, m);
     }
     put_u32(out, at, m)
 }
 
 // How many bytes the text of z has.
+#[tactic(auto, using(crate::proofs::Sign::text_length, crate::proofs::FromFirst::decimal_length))]
 pub fn len_i32(z: i32) -> usize
     ensures { result ≡ length (int_text z) }
 {
-    let n = count_digits(unsigned_abs(z));
-    if z < 0 { n + 1 } else { n }
+    count_digits(z.unsigned_abs()) + usize::from(z < 0)
 }
 
-// Where the text was written to: the place after it. `NoRoom`: it does not fit whole, and nothing was written.
-#[derive(Clone, Copy)]
-pub enum Written {
-    To(usize),
-    NoRoom,
-}
-
-// z in decimal, if it fits whole.
-pub fn write_i32(out: &mut [u8], at: usize, z: i32) -> Written
+// z in decimal, if it fits whole: the place after it. Else nothing is written.
+#[tactic(auto, using(crate::proofs::Whole::refused, crate::proofs::Whole::kept))]
+pub fn write_i32(out: &mut [u8], at: usize, z: i32) -> Option<usize>
     ensures value { result ≡ written_of out.old at z }
     ensures out_after { out.new ≡ buffer_after out.old at z }
 {
-    let n = len_i32(z);
-    if out.len() < n {
-        return Written::NoRoom;
+    let end = at.saturating_add(len_i32(z));
+    if out.len() < end {
+        return None;
     }
-    if out.len() - n < at {
-        return Written::NoRoom;
-    }
-    Written::To(put_i32(out, at, z))
+    Some(put_i32(out, at, z))
 }

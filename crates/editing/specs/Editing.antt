@@ -1,23 +1,24 @@
--- What the edits of a tree in columns answer.
-use Rattle.std.specs.Prelude.{ℕ, ◌+◌, ◌≡◌, Bool, ◌||◌, ltb}
+-- What the edits of a table answer.
+use Rattle.std.specs.Prelude.{ℕ, ◌+◌, ◌≡◌, Bool, false, ◌||◌, ltb, Option, None, Some, Result, Ok, Err, IfOk}
+use Rattle.refusal.specs.declared.Refusal.{Refusal}
+use Rattle.refusal.specs.declared.Refusal.TheVariants.{NewSource}
+use Rattle.refusal.specs.Refusals.{number_of}
 use Rattle.tree.specs.Limits.{most_nodes}
-use Rattle.tree.specs.Tree.{Tree}
 use Rattle.tree.specs.Memory.{name_in}
-use Rattle.tables.specs.declared.Table.{Table}
+use Rattle.tree.specs.declared.SteinerNumber.{SteinerNumber}
+use Rattle.tree.specs.declared.NodeName.{NodeName}
+use Rattle.tree.specs.declared.NodeName.TheVariants as N
+use Rattle.tree.specs.declared.NodeType.{NodeType}
+use Rattle.tree.specs.declared.NodeType.TheVariants.{Source, Steiner, Terminal}
+use Rattle.joining.specs.declared.Counts.{Counts}
 use Rattle.tables.specs.Table.{table_tree, Tabled}
 use Rattle.editing.specs.Edits as D
-use Rattle.editing.specs.declared.Answer.{Answer}
-use Rattle.editing.specs.declared.Answer.TheVariants.{Refused, Inserted}
-use Rattle.editing.specs.declared.ParentName.{ParentName}
-use Rattle.editing.specs.declared.ParentName.TheVariants.{Default, Of}
-use Rattle.editing.specs.declared.NodeType.{NodeType}
-use Rattle.editing.specs.declared.NodeType.TheVariants.{Source, Steiner, Terminal}
-use Rattle.editing.specs.declared.Edit.{Edit}
+use Rattle.editing.specs.declared.Insertion.{Insertion}
 
--- ---- the code's enums as the paper's
-abbrev pub parent_name_of : ParentName → D.ParentName
-parent_name_of Default = D.default
-parent_name_of (Of n) = D.named (name_in n)
+-- ---- the code's types as the paper's
+abbrev pub parent_name_of : Option NodeName → D.ParentName
+parent_name_of None = D.default
+parent_name_of (Some n) = D.named (name_in n)
 
 abbrev pub kind_in : NodeType → D.Kind
 kind_in Source = D.source_kind
@@ -25,23 +26,28 @@ kind_in Steiner = D.steiner_kind
 kind_in Terminal = D.terminal_kind
 
 -- the paper's number, or the new node's name and the tree
-abbrev pub edit_of : Answer → Tree → D.Edit
-edit_of (Refused n) t = D.refused n
-edit_of (Inserted n) t = D.inserted (name_in n) t
+abbrev pub edit_of : Result Insertion Refusal → D.Edit
+edit_of (Err e) = D.refused (number_of e)
+edit_of (Ok i) = D.inserted (name_in i.name) (table_tree i.table)
 
 -- ---- what an edit shows
--- after a refusal "the tree value" is "as before"
-abbrev pub AsBefore : {A : Type 0} → Answer → A → A → Type 0
-AsBefore (Refused n) before after = after ≡ before
-AsBefore (Inserted n) before after = Unit {0}
+-- the answer is the edit x. That "the tree value" is "as before" after a refusal is in the type: the table is only lent to be read
+pub record Edits (x : D.Edit) (r : Result Insertion Refusal) : Type 0 where
+  pub is : edit_of r ≡ x
+  pub tabled : IfOk r (λ i. Tabled i.table)
 
--- the edit x of the tree in t
-pub record Edits (x : D.Edit) (t : Table) (r : Edit) : Type 0 where
-  pub is : edit_of r.answer (table_tree r.table) ≡ x
-  pub kept : AsBefore r.answer t r.table
-  pub tabled : Tabled r.table
+-- the name of a new node of a kind: "9: kind Source for a new node"
+abbrev pub new_name : Counts → NodeType → Result NodeName Refusal
+new_name k Source = Err NewSource
+new_name k Steiner = Ok (N.Steiner k.steiner)
+new_name k Terminal = Ok (N.Terminal k.terminal)
 
--- the test that the code makes for 10, of counts alone: of n nodes, how many more there would be, and the new Steiner number, 0 for none.
+-- a new Steiner number, if there is one, passes the limit
+abbrev pub passed : Option SteinerNumber → Bool
+passed None = false
+passed (Some k) = ltb most_nodes k.0
+
+-- the test that the code makes for 10, of counts alone: of n nodes, how many more there would be, and the new Steiner number.
 -- It is the paper's, `full` (`overfull_is`, proofs/Refusing.antt)
-abbrev pub overfull : ℕ → ℕ → ℕ → Bool
-overfull n more number = ltb most_nodes (n + more) || ltb most_nodes number
+abbrev pub overfull : ℕ → ℕ → Option SteinerNumber → Bool
+overfull n more number = ltb most_nodes (n + more) || passed number

@@ -4,49 +4,58 @@
 ghost use Rattle.std.specs.Prelude.{◌<◌, length, IfOk};
 ghost use Rattle.global_router.specs.Stored.{Stored};
 
-use script::Progress;
+use global_router::GlobalRoutingTree;
 use std::io::{Error, ErrorKind, Result};
-use streams::Input;
 
 // The bytes that a script may have.
 const MOST_SCRIPT: usize = 65536;
 
-fn write_start(rt: &HostRuntime, script: &[u8]) -> Result<Progress>
-    ensures { IfOk result (λ r. Stored r.tree) }
+// Runs the record that stands at a place, and returns where the next one does.
+fn write_step(
+    rt: &HostRuntime,
+    tree: &mut GlobalRoutingTree,
+    script: &[u8],
+    at: usize,
+) -> Result<usize>
+    requires stored { Stored tree.old }
+    requires at_in_bounds { at < length script.now }
+    ensures stored { Stored tree.new }
+    ensures on { IfOk result (λ next. at < next) }
 {
-    let mut out = script::answer_buffer();
-    let s = script::begin(script, &mut out);
-    rt.write_all(&out[..s.written])?;
-    Ok(s)
+    let mut out = script::buffer::<{ script::MOST_ANSWER }>();
+    let step = script::step(tree, script, at, &mut out);
+    rt.write_all(&out[..step.written])?;
+    Ok(step.next)
 }
 
-fn write_step(rt: &HostRuntime, s: Progress, script: &[u8]) -> Result<Progress>
-    requires stored { Stored s.tree }
-    requires next_in_bounds { s.next < length script.now }
-    ensures { IfOk result (λ r. Stored r.tree × (s.next < r.next)) }
+// Runs the records, after the start. (A `while`: a record tells where the next one stands.)
+fn write_steps(rt: &HostRuntime, mut tree: GlobalRoutingTree, script: &[u8]) -> Result<()>
+    requires { Stored tree }
 {
-    let mut out = script::answer_buffer();
-    let r = script::step(s.tree, script, s.next, &mut out);
-    rt.write_all(&out[..r.written])?;
-    Ok(r)
+    let mut at = script::first_record(script);
+    while at < script.len() {
+        at = write_step(rt, &mut tree, script, at)?;
+    }
+    Ok(())
 }
 
 fn run(rt: &HostRuntime, script: &[u8]) -> Result<()> {
-    let mut s = write_start(rt, script)?;
-    while s.next < script.len() {
-        s = write_step(rt, s, script)?;
+    let mut out = script::buffer::<{ script::MOST_ANSWER }>();
+    let start = script::start(script);
+    let n = script::put_start(&mut out, &start);
+    rt.write_all(&out[..n])?;
+    match start {
+        Ok(tree) => write_steps(rt, tree, script),
+        Err(_) => Ok(()),
     }
-    Ok(())
 }
 
 // Where standard input cannot be read, it answers nothing, says so and ends with an error. So does a failed write.
 fn main(rt: HostRuntime) -> Result<()> {
     let mut buf = [0u8; MOST_SCRIPT];
-    match streams::read_input(&mut rt.reader(), &mut buf) {
-        Input::Read(n) => run(&rt, &buf[..n]),
-        Input::Failed => {
-            rt.stderr().write_all(b"standard input cannot be read\n")?;
-            Err(Error::from(ErrorKind::Other))
-        }
-    }
+    let Ok(n) = streams::read_input(&mut rt.reader(), &mut buf) else {
+        rt.stderr().write_all(b"standard input cannot be read\n")?;
+        return Err(Error::from(ErrorKind::Other));
+    };
+    run(&rt, &buf[..n])
 }

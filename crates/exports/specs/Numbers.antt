@@ -1,11 +1,11 @@
 -- Answers as one number, for callers in other languages, and the figures of a job's tree. Definitions only.
-use Rattle.std.specs.Prelude.{ℕ, ◌≡◌, List, ℤ, pos, neg_ℤ}
+use Rattle.std.specs.Prelude.{ℕ, ◌≡◌, Result, Ok, Err, List, ℤ, pos, neg_ℤ}
 use Rattle.tree.specs.Tree.{Tree, total}
 use Rattle.tree.specs.Measures.{worst}
 use Rattle.route.specs.Routing.{Routing, refused, routed}
 use Rattle.tree_bytes.specs.TreeBytes.{tree_bytes}
-use Rattle.output.specs.declared.Answer.{Answer}
-use Rattle.output.specs.declared.Answer.TheVariants.{Wrote, Refused}
+use Rattle.refusal.specs.declared.Refusal.{Refusal}
+use Rattle.refusal.specs.Refusals.{number_of}
 use Rattle.output.specs.Answer.{answer_of, content_of}
 
 -- a refusal: minus its number
@@ -13,13 +13,9 @@ abbrev pub minus : ℕ → ℤ
 minus n = neg_ℤ (pos n)
 
 -- how much was written, or a refusal
-abbrev pub returned_of : Answer → ℤ
-returned_of (Wrote n) = pos n
-returned_of (Refused n) = minus n
-
-abbrev pub size_in : Answer → ℕ
-size_in (Wrote n) = n
-size_in (Refused n) = n
+abbrev pub returned_of : Result ℕ Refusal → ℤ
+returned_of (Ok n) = pos n
+returned_of (Err r) = minus (number_of r)
 
 -- the answer to writing xs, as a number, and the buffer after
 pub record Writes (xs out : List ℕ) (r : ℤ) (out' : List ℕ) : Type 0 where

@@ -2,29 +2,29 @@
 // An answer is a number: what was written, or minus the number of a refusal.
 #![tactic(auto)]
 
-ghost use Rattle.std.specs.Prelude.{◌≡◌, ◌<◌, ◌^◌};
+ghost use Rattle.std.specs.Prelude.{◌≡◌, ◌<◌, ◌^◌, IfOk};
+ghost use Rattle.refusal.specs.Refusals.{number_of};
 ghost use Rattle.route.specs.Routing.{route_of};
 ghost use Rattle.planning.specs.Output.{output_of};
-ghost use Rattle.exports.specs.Numbers.{minus, size_in, returned_of, Writes, BytesOf, figures, status_of, figures_after};
+ghost use Rattle.exports.specs.Numbers.{minus, returned_of, Writes, BytesOf, figures, status_of, figures_after};
 
-use job::ReadAnswer;
-use output::Answer;
+use refusal::Refusal;
 
 // ---- answers as numbers
 
-fn refusal(n: u8) -> i64
-    ensures { result ≡ minus n }
+fn refused(r: Refusal) -> i64
+    ensures { result ≡ minus (number_of r) }
 {
-    0 - (n as i64)
+    -i64::from(r.number())
 }
 
-fn number_of(answer: Answer) -> i64
-    requires { size_in «answer» < 2 ^ 63 }
+fn returned(answer: Result<usize, Refusal>) -> i64
+    requires { IfOk «answer» (λ n. n < 2 ^ 63) }
     ensures { result ≡ returned_of «answer» }
 {
     match answer {
-        Answer::Wrote(n) => n as i64,
-        Answer::Refused(n) => refusal(n),
+        Ok(n) => n as i64,
+        Err(why) => refused(why),
     }
 }
 
@@ -34,22 +34,19 @@ fn number_of(answer: Answer) -> i64
 pub fn ferruleslate_plan(job: &[u8], out: &mut [u8]) -> i64
     ensures { Writes (output_of job.now) out.old result out.new }
 {
-    let answer = planning::plan(job, out);
-    number_of(answer)
+    let written = planning::plan(job, out);
+    returned(written)
 }
 
 // The tree bytes of a job. Refusals: 1 to 6, of the job; then 11.
 pub fn ferruleslate_tree_bytes(job: &[u8], out: &mut [u8]) -> i64
     ensures { BytesOf (route_of job.now) out.old result out.new }
 {
-    let routed = route::route_table(job);
-    let answer = routed.answer;
-    match answer {
-        ReadAnswer::Refused(n) => refusal(n),
-        ReadAnswer::Accepted => {
-            let t = routed.table;
-            let written = reading::write_tree_bytes(t, out);
-            number_of(written)
+    match route::route_table(job) {
+        Err(r) => refused(r),
+        Ok(t) => {
+            let written = reading::write_tree_bytes(&t, out);
+            returned(written)
         }
     }
 }
@@ -65,21 +62,14 @@ pub fn ferruleslate_figures(
     ensures status { result ≡ status_of (route_of job.now) }
     ensures figures { figures allowed.new farthest.new total.new worst.new ≡ figures_after (route_of job.now) (figures allowed.old farthest.old total.old worst.old) }
 {
-    let routed = route::route_table(job);
-    let answer = routed.answer;
-    match answer {
-        ReadAnswer::Refused(n) => refusal(n),
-        ReadAnswer::Accepted => {
-            let t = routed.table;
-            let f = reading::read_figures(t);
-            let a = f.allowed;
-            let w = f.farthest;
-            let l = f.total;
-            let v = f.worst;
-            *allowed = a;
-            *farthest = w;
-            *total = l;
-            *worst = v;
+    match route::route_table(job) {
+        Err(r) => refused(r),
+        Ok(t) => {
+            let f = reading::read_figures(&t);
+            *allowed = f.allowed;
+            *farthest = f.farthest;
+            *total = f.total;
+            *worst = f.worst;
             0
         }
     }

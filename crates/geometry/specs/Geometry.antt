@@ -1,5 +1,6 @@
 -- Points, intervals and rectangles, over ℤ (document 01, "Points and rectangles"; the documentation of point.rs and interval.rs). Definitions only.
-use Rattle.std.specs.Prelude.{ℕ, ◌+◌, Bool, ◌&&◌, ◌||◌, cond, ℤ, pos, nat_abs, ◌-ℤ◌}
+use Rattle.std.specs.Prelude.{ℕ, ◌+◌, Bool, ◌&&◌, ◌||◌, ℤ, pos, nat_abs, ◌-ℤ◌}
+use Rattle.std.specs.Int.{int_min, int_max}
 use Rattle.std.specs.Int.Signed.{le_z, lt_z}
 use Rattle.geometry.specs.declared.Point.{Point}
 use Rattle.geometry.specs.declared.Interval.{Interval}
@@ -13,11 +14,12 @@ gap a b = nat_abs (a -ℤ b)
 unfoldable pub dist : Point → Point → ℕ
 dist p q = gap p.xcoord q.xcoord + gap p.ycoord q.ycoord
 
+-- the lesser and the greater of two numbers: the library's words, which proofs leave closed
 unfoldable pub min_z : ℤ → ℤ → ℤ
-min_z a b = cond (le_z a b) a b
+min_z a b = int_min a b
 
 unfoldable pub max_z : ℤ → ℤ → ℤ
-max_z a b = cond (le_z a b) b a
+max_z a b = int_max a b
 
 -- the interval of two numbers
 abbrev pub hull : ℤ → ℤ → Interval

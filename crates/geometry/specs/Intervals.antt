@@ -2,10 +2,11 @@
 -- As in Laws.antt, numbers go to ℕ by a bias above those at hand.
 use Rattle.std.specs.Prelude.{◌≡◌, true, ℕ, ◌≤◌, ℤ}
 use Rattle.std.proofs.Common.{arith}
+use Rattle.std.specs.Cmp.{first_so, second_so}
 use Rattle.std.specs.Int.Signed.{le_z}
 use Rattle.geometry.specs.declared.Interval.{Interval}
 use Rattle.geometry.specs.Geometry.{min_z, max_z, hull, inside, covers}
-use Rattle.geometry.specs.Signed.{is_true, bias, bias_inj, In, in_a, in_b, in_c, le_yes, le_in, min_in, max_in, bias-min, bias-max, and_left, and_right}
+use Rattle.geometry.specs.Signed.{is_true, bias, bias_inj, In, in_a, in_b, in_c, le_yes, le_in, min_in, max_in, bias-min, bias-max}
 
 -- ---- order
 pub le-back : {K : ℕ} (x y : ℤ) → In K x → In K y → bias K x ≤ bias K y → le_z x y ≡ true
@@ -33,15 +34,15 @@ module _ (o : Interval) (a b : ℤ) where
   pub covers-hull : covers o (hull a b) ≡ true → inside o a ≡ true
   unfolding covers inside
   covers-hull e =
-      rw (le-min-left o.lb a b (and_left (le_z o.lb (min_z a b)) (le_z (max_z a b) o.ub) e), max-le-left o.ub a b (and_right (le_z o.lb (min_z a b)) (le_z (max_z a b) o.ub) e))
+      rw (le-min-left o.lb a b (first_so (le_z o.lb (min_z a b)) (le_z (max_z a b) o.ub) e), max-le-left o.ub a b (second_so (le_z o.lb (min_z a b)) (le_z (max_z a b) o.ub) e))
 
   -- one that has both contains theirs
   pub hull_covered : inside o a ≡ true → inside o b ≡ true → covers o (hull a b) ≡ true
   unfolding covers inside
   hull_covered e f =
       rw (
-        le-min o.lb a b (and_left (le_z o.lb a) (le_z a o.ub) e) (and_left (le_z o.lb b) (le_z b o.ub) f),
-        max-le o.ub a b (and_right (le_z o.lb a) (le_z a o.ub) e) (and_right (le_z o.lb b) (le_z b o.ub) f),
+        le-min o.lb a b (first_so (le_z o.lb a) (le_z a o.ub) e) (first_so (le_z o.lb b) (le_z b o.ub) f),
+        max-le o.ub a b (second_so (le_z o.lb a) (le_z a o.ub) e) (second_so (le_z o.lb b) (le_z b o.ub) f),
       )
 
 pub hull-has : (a b : ℤ) → inside (hull a b) a ≡ true

@@ -1,18 +1,22 @@
 -- The signed law library: ℤ as naturals that `omega` reads. A number z with -K ≤ z < K stands for the natural z + K, its bias;
--- order, distance, least and greatest commute with that. The second half is for code: what a signed local of 32 bits says in a test.
-use Rattle.std.specs.Prelude.{◌≡◌, refl, Bool, true, false, ◌&&◌, cond, T, ltb, eqb, ℤ, pos, negsuc, nat_abs, ◌≤ℤ◌}
-use Rattle.std.proofs.Common.{sym, subst, ◌∙◌, arith, ltb-true, ltb-false, leb-true, leb-false, le-leb, eqb-true}
+-- order, distance, least and greatest commute with that. The end is for code: a signed local of 32 bits is read back from its bits.
+use Rattle.std.specs.Prelude.{◌≡◌, refl, Bool, true, false, ◌&&◌, cond, T, leb, ltb, eqb, ℤ, pos, negsuc, nat_abs, ◌≤ℤ◌}
+use Rattle.std.proofs.Common.{sym, subst, ◌∙◌, arith, ltb-true, ltb-false, leb-true, leb-false, le-leb, lt-ltb, le-ltb, eqb-true}
+use Rattle.std.proofs.lemmas.Bool.{eqb-false}
 use Rattle.std.proofs.Math.Path.{ap}
 use Prim.Native.Nat.{ℕ, zero, suc, ◌+◌, ◌-◌, ◌≤◌, ◌<◌, min, max}
 use Rattle.std.proofs.Math.IntN.{sub_ℕ}
 use Rattle.std.specs.Int.Signed.{le_z, lt_z, mag}
-use Rattle.std.proofs.lemmas.Bool.{eqb-false}
+use Rattle.std.proofs.lemmas.Bool.Decides.{Decides-int_eq, same_from_decides}
+use Rattle.std.specs.Bool.{Decides}
+use Rattle.std.specs.Cmp.{first_so, second_so}
+use Rattle.std.specs.Ordering.{int_eq}
 use Rattle.std.specs.Int.{w32}
 use mir.Val.{SFits, to_z, of_z, sel}
 use Rattle.std.proofs.lemmas.Int.{to_z-of_z}
 use Rattle.geometry.specs.declared.Point.{Point}
 use Rattle.geometry.specs.declared.Interval.{Interval}
-use Rattle.geometry.specs.Geometry.{gap, min_z, max_z, clip, eq_z}
+use Rattle.geometry.specs.Geometry.{gap, min_z, max_z, clip, eq_z, same}
 
 -- ---- Booleans
 pub is_true : (b : Bool) → T b → b ≡ true
@@ -114,22 +118,44 @@ by_test : (P : ℤ → Type 0) (a b : ℤ) (t : Bool) → (t ≡ true → P a) �
 by_test P a b true y n = y refl
 by_test P a b false y n = n refl
 
+-- they are those of the order, whichever is given at equal numbers
+flip : (m n : ℕ) (x y : ℤ) → cond (ltb n m) y x ≡ cond (leb m n) x y
+flip m n x y = by (leb m n) refl
+  where
+    by : (t : Bool) → leb m n ≡ t → cond (ltb n m) y x ≡ cond t x y
+    by true e = ap (λ (t : Bool). cond t y x) (le-ltb n m (leb-true m n e))
+    by false e = ap (λ (t : Bool). cond t y x) (lt-ltb n m (leb-false m n e))
+
+pub min_z-is : (a b : ℤ) → min_z a b ≡ cond (le_z a b) a b
+unfolding min_z
+min_z-is (pos m) (pos n) = flip m n (pos m) (pos n)
+min_z-is (pos m) (negsuc n) = refl
+min_z-is (negsuc m) (pos n) = refl
+min_z-is (negsuc m) (negsuc n) = flip n m (negsuc m) (negsuc n)
+
+pub max_z-is : (a b : ℤ) → max_z a b ≡ cond (le_z a b) b a
+unfolding max_z
+max_z-is (pos m) (pos n) = flip m n (pos n) (pos m)
+max_z-is (pos m) (negsuc n) = refl
+max_z-is (negsuc m) (pos n) = refl
+max_z-is (negsuc m) (negsuc n) = flip n m (negsuc n) (negsuc m)
+
 module _ {K : ℕ} (x y : ℤ) (f : In K x) (g : In K y) where
   pub min_in : In K (min_z x y)
   unfolding min_z
-  min_in = by_test (In K) x y (le_z x y) (λ e. f) (λ e. g)
+  min_in = by_test (In K) y x (lt_z y x) (λ e. g) (λ e. f)
 
   pub max_in : In K (max_z x y)
   unfolding max_z
-  max_in = by_test (In K) y x (le_z x y) (λ e. g) (λ e. f)
+  max_in = by_test (In K) x y (lt_z y x) (λ e. f) (λ e. g)
 
   pub bias-min : bias K (min_z x y) ≡ min (bias K x) (bias K y)
   unfolding min_z
-  bias-min = by_test (λ z. bias K z ≡ min (bias K x) (bias K y)) x y (le_z x y) (λ e. omega (arith, le_yes x y f g e)) (λ e. omega (arith, le_no x y f g e))
+  bias-min = by_test (λ z. bias K z ≡ min (bias K x) (bias K y)) y x (lt_z y x) (λ e. omega (arith, lt_yes y x g f e)) (λ e. omega (arith, lt_no y x g f e))
 
   pub bias-max : bias K (max_z x y) ≡ max (bias K x) (bias K y)
   unfolding max_z
-  bias-max = by_test (λ z. bias K z ≡ max (bias K x) (bias K y)) y x (le_z x y) (λ e. omega (arith, le_yes x y f g e)) (λ e. omega (arith, le_no x y f g e))
+  bias-max = by_test (λ z. bias K z ≡ max (bias K x) (bias K y)) x y (lt_z y x) (λ e. omega (arith, lt_yes y x g f e)) (λ e. omega (arith, lt_no y x g f e))
 
 module _ {K : ℕ} (i : Interval) (v : ℤ) (fl : In K i.lb) (fu : In K i.ub) (fv : In K v) where
   pub clip_in : In K (clip i v)
@@ -151,30 +177,30 @@ le_antisym (pos a) (negsuc b) e f = no_way e
 le_antisym (negsuc a) (pos b) e f = no_way f
 le_antisym (negsuc a) (negsuc b) e f = ap negsuc (omega (arith, leb-true b a e, leb-true a b f))
 
-pub and_left : (a b : Bool) → (a && b) ≡ true → a ≡ true
-and_left true b e = refl
-and_left false b e = e
-
-pub and_right : (a b : Bool) → (a && b) ≡ true → b ≡ true
-and_right true b e = e
-and_right false b e = no_way e
-
 pub eq_z-refl : (x : ℤ) → eq_z x x ≡ true
 eq_z-refl x = rw (le_refl x)
 
 pub eq_z-eq : (x y : ℤ) → eq_z x y ≡ true → x ≡ y
-eq_z-eq x y e = le_antisym x y (and_left (le_z x y) (le_z y x) e) (and_right (le_z x y) (le_z y x) e)
+eq_z-eq x y e = le_antisym x y (first_so (le_z x y) (le_z y x) e) (second_so (le_z x y) (le_z y x) e)
 
--- ---- code: a signed local of 32 bits is read back from its bits
+Decides-eq_z : (x y : ℤ) → Decides (eq_z x y) (x ≡ y)
+Decides-eq_z x y = (eq_z-eq x y, λ e. subst (λ (z : ℤ). eq_z x z ≡ true) e (eq_z-refl x))
+
+eq_z-is : (x y : ℤ) → eq_z x y ≡ int_eq x y
+eq_z-is x y = same_from_decides (eq_z x y) (int_eq x y) (Decides-eq_z x y) (Decides-int_eq x y)
+
+-- the derived `==` of points
+pub same_is : (p q : Point) → same p q ≡ (int_eq p.xcoord q.xcoord && int_eq p.ycoord q.ycoord)
+unfolding same
+same_is p q = λ i. eq_z-is p.xcoord q.xcoord i && eq_z-is p.ycoord q.ycoord i
+
+-- ---- code
 -- z is in i32's range
 abbrev pub In32 : ℤ → Type 0
 In32 z = SFits w32 z
 
 abbrev pub half : ℕ
 half = 2147483648
-
-pub low : {z : ℤ} → In32 z → In half z
-low f = record { below = f.sfits }
 
 abbrev pub back : ℤ → ℤ
 back z = to_z w32 (of_z w32 z)
@@ -190,6 +216,9 @@ pub record InPoint (p : Point) : Type 0 where
 pub record InInterval (i : Interval) : Type 0 where
   pub lb : In32 i.lb
   pub ub : In32 i.ub
+
+pub low : {z : ℤ} → In32 z → In half z
+low f = record { below = f.sfits }
 
 -- a test of two locals, as one of the numbers
 pub le-home : {x y : ℤ} → In32 x → In32 y → le_z (back x) (back y) ≡ le_z x y

@@ -1,57 +1,38 @@
 -- The answers of the calls that give a tree, by what led to them.
-use Prim.Native.Nat.{ℕ}
 use mathlib.Core.Path.{◌≡◌, sym, ap, subst, ◌∙◌}
 use mathlib.Core.Bool.{Bool, true, false}
 use mathlib.Core.List.{List}
-use native.Mathlib.Omega.{arith}
+use Prim.Native.Nat.{ℕ}
+use Rattle.std.specs.Prelude.{Result, Ok, Err}
+use Rattle.refusal.specs.declared.Refusal.{Refusal}
+use Rattle.refusal.specs.declared.Refusal.TheVariants.{Outside}
 use Rattle.geometry.specs.declared.Point.{Point}
 use Rattle.tree.specs.Tree.{Tree}
 use Rattle.job.specs.Job.{outside}
-use Rattle.tables.specs.declared.Table.{Table}
-use Rattle.tables.specs.Table.{table_tree}
 use Rattle.route.specs.Demand3.{Owed}
 use Rattle.route.proofs.Owed.{demand3}
 use Rattle.route.specs.Routing.{Routing, refused, routed, route_of}
-use Rattle.route.specs.declared.RoutedTable.{RoutedTable}
-use Rattle.route.specs.Tables as J
-use Rattle.route.specs.Tables.{begun, Tables}
-use Rattle.global_router.specs.declared.Answer.{Answer}
-use Rattle.global_router.specs.declared.Answer.TheVariants.{Done}
-use Rattle.global_router.specs.declared.Outcome.{Outcome}
-use Rattle.global_router.specs.Stored.{tree_of}
-use Rattle.global_router.specs.Calls.{Outcomes, routing_from, new_of, Answered}
+use Rattle.route.specs.Tables.{begun}
+use Rattle.global_router.specs.declared.GlobalRoutingTree.{GlobalRoutingTree}
+use Rattle.global_router.specs.Stored.{tree_of, Stored}
+use Rattle.global_router.specs.Calls.{Outcomes, routing_from, new_of}
 
--- a tree
-pub gives : (x : Tree) (t : Table) (r : Outcome) → table_tree t ≡ x → Answered Done t r → Outcomes (routed x) r
-gives x t r h p =
-    record {
-      is = ap (λ (a : Answer). routing_from a (tree_of r.tree)) p.answer ∙ ap routed (p.tree ∙ h);
-      beside = λ n f. absurd (let z : ◌≡◌ {A = ℕ} 0 1 = cc in omega arith);
-      stored = p.stored;
-    }
-
-as_answer : {x y : Routing} {r : Outcome} → x ≡ y → Outcomes y r → Outcomes x r
-as_answer {r = r} e o = subst (λ (z : Routing). Outcomes z r) (sym e) o
-
-module _ (p : Point) (b : Bool) (eb : b ≡ outside p) {r : Outcome} where
-  pub new_refused : b ≡ true → Outcomes (refused 5) r → Outcomes (new_of p) r
+-- ---- a tree that begins by hand
+module _ (p : Point) where
+  pub new_refused : outside p ≡ true → Outcomes (new_of p) (Err Outside)
   unfolding new_of
-  new_refused t o = as_answer is o
+  new_refused t = record { is = is; stored = tt }
     where
-      is : new_of p ≡ refused 5
-      is = rw (sym eb ∙ t)
+      is : refused 5 ≡ new_of p
+      is = rw t
 
-  pub new_given : b ≡ false → Outcomes (routed (begun p)) r → Outcomes (new_of p) r
+  pub new_given : outside p ≡ false → (g : GlobalRoutingTree) → tree_of g ≡ begun p → Stored g → Outcomes (new_of p) (Ok g)
   unfolding new_of
-  new_given t o = as_answer is o
+  new_given t g h s = record { is = ap routed h ∙ is; stored = s }
     where
-      is : new_of p ≡ routed (begun p)
-      is = rw (sym eb ∙ t)
+      is : routed (begun p) ≡ new_of p
+      is = rw t
 
--- a job's tree, as it stands in columns, with what demand 3 owes of it
-pub routes : (bytes : List ℕ) (x : RoutedTable) (a : Answer) (r : Outcome) → Tables (route_of bytes) x → ((t : Tree) → routing_from a t ≡ J.routing_from x.answer t)
-    → Answered a x.table r → Outcomes (route_of bytes) r × Owed bytes (routing_from r.answer (tree_of r.tree))
-routes bytes x a r v e p = (record { is = is; beside = λ n f. p.tree ∙ v.beside n f; stored = p.stored }, subst (Owed bytes) (sym is) (demand3 bytes))
-  where
-    is : routing_from r.answer (tree_of r.tree) ≡ route_of bytes
-    is = (λ i. routing_from (p.answer i) (p.tree i)) ∙ e (table_tree x.table) ∙ v.is
+-- what demand 3 owes of a job's answer
+pub owes : (bytes : List ℕ) {r : Routing} → r ≡ route_of bytes → Owed bytes r
+owes bytes is = subst (Owed bytes) (sym is) (demand3 bytes)

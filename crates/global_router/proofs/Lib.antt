@@ -2,5 +2,4 @@ pub mod Packed
 pub mod Unpacked
 pub mod Answering
 pub mod Reading
-pub mod Finishing
 pub mod Gathered

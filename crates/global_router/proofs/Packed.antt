@@ -32,18 +32,18 @@ abbrev pub memory : Table → List RoutingNode → ℤ → GlobalRoutingTree
 memory t nodes allowed =
     record {
       nodes = nodes;
-      links = t.links;
-      count = t.counts.nodes;
-      next_steiner_id = t.counts.steiner;
-      next_terminal_id = t.counts.terminal;
+      links = t.arena.links;
+      count = t.arena.counts.nodes;
+      next_steiner_id = t.arena.counts.steiner;
+      next_terminal_id = t.arena.counts.terminal;
       worst_wirelength = t.limit;
       allowed = allowed;
       farthest = t.farthest;
     }
 
-module _ (t : Table) (v : Tabled t) (nodes : List RoutingNode) (packs : Packs (table_columns t).rows t.counts.nodes nodes) where
+module _ (t : Table) (v : Tabled t) (nodes : List RoutingNode) (packs : Packs (table_columns t).rows t.arena.counts.nodes nodes) where
   nodes-same : (tree_of (memory t nodes t.allowed)).nodes ≡ (table_tree t).nodes
-  nodes-same = upto_same (M.node_stored (memory t nodes t.allowed)) (node_of (table_columns t)) t.counts.nodes (λ i h. packs.is i h _)
+  nodes-same = upto_same (M.node_stored (memory t nodes t.allowed)) (node_of (table_columns t)) t.arena.counts.nodes (λ i h. packs.is i h _)
 
   packed_is : tree_of (memory t nodes t.allowed) ≡ table_tree t
   packed_is =
@@ -52,14 +52,14 @@ module _ (t : Table) (v : Tabled t) (nodes : List RoutingNode) (packs : Packs (t
         allowed = t.allowed;
         farthest = t.farthest;
         limit = t.limit;
-        next_steiner = t.counts.steiner.0;
-        next_terminal = t.counts.terminal.0;
+        next_steiner = t.arena.counts.steiner.0;
+        next_terminal = t.arena.counts.terminal.0;
       }
 
   formed : WellFormed (tree_of (memory t nodes t.allowed))
   formed = subst WellFormed (sym packed_is) v.formed
 
-  chains : (p : ℕ) → p < t.counts.nodes → Chained (table_links t).prev (get_or (table_links t).last p 0)
+  chains : (p : ℕ) → p < t.arena.counts.nodes → Chained (table_links t).prev (get_or (table_links t).last p 0)
   chains p h =
       let l : p < length (table_tree t).nodes = omega (arith, size t) in
       record {

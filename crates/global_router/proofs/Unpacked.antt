@@ -11,15 +11,14 @@ use Rattle.tree.specs.Tree.{Node, at, node_at, blank}
 use Rattle.tree.specs.WellFormed.{WellFormed}
 use Rattle.tree.proofs.Linking.{parent_in_lem}
 use Rattle.search.specs.Columns.{chain, Chain, Chained}
-use Rattle.joining.specs.declared.Counts.{Counts}
+use Rattle.joining.specs.declared.NodeRows.{NodeRows}
+use Rattle.joining.specs.Buffers.{rows_held}
 use Rattle.joining.specs.Links.{ChildrenAre}
 use Rattle.joining.specs.Store.{Columns, row_at, node_from, node_of, nodes_of, SizedRows, Keeps}
 use Rattle.joining.proofs.Reading.{length_upto, get_or-upto}
 use Rattle.tables.specs.declared.Table.{Table}
 use Rattle.tables.specs.Nodes.{Packs, Unpackable}
 use Rattle.tables.specs.Table.{table_columns, table_tree, Tabled}
-use Rattle.reading.specs.declared.Rows.{Rows}
-use Rattle.reading.specs.Rows.{rows_of}
 use Rattle.global_router.specs.declared.GlobalRoutingTree.{GlobalRoutingTree}
 use Rattle.global_router.specs.Stored as M
 use Rattle.global_router.specs.Stored.{tree_of, counts_of, Stored}
@@ -61,24 +60,20 @@ module _ (g : GlobalRoutingTree) (v : Stored g) where
       }
 
   -- ---- as the code makes it, with the allowance as the code reads it back
-  module _ (r : Rows) (packs : Packs (rows_of r) g.count g.nodes) (sized : SizedRows most_nodes (rows_of r)) where
-    abbrev table : Counts → ℤ → Table
-    table k allowed =
+  module _ (r : NodeRows) (packs : Packs (rows_held r) g.count g.nodes) (sized : SizedRows most_nodes (rows_held r)) where
+    abbrev table : ℤ → Table
+    table allowed =
         record {
-          points = r.points;
-          path = r.path;
-          marks = r.marks;
-          links = g.links;
-          counts = k;
+          arena = record { nodes = r; links = g.links; counts = counts_of g };
           limit = g.worst_wirelength;
           allowed = allowed;
           farthest = g.farthest;
         }
 
-    nodes-same : (table_tree (table (counts_of g) g.allowed)).nodes ≡ (tree_of g).nodes
-    nodes-same = upto_same (node_of (table_columns (table (counts_of g) g.allowed))) (M.node_stored g) g.count (λ i h. sym (packs.is i h _))
+    nodes-same : (table_tree (table g.allowed)).nodes ≡ (tree_of g).nodes
+    nodes-same = upto_same (node_of (table_columns (table g.allowed))) (M.node_stored g) g.count (λ i h. sym (packs.is i h _))
 
-    unpacked_is : table_tree (table (counts_of g) g.allowed) ≡ tree_of g
+    unpacked_is : table_tree (table g.allowed) ≡ tree_of g
     unpacked_is =
         λ i. record {
           nodes = nodes-same i;
@@ -89,11 +84,11 @@ module _ (g : GlobalRoutingTree) (v : Stored g) where
           next_terminal = g.next_terminal_id.0;
         }
 
-    unpacked-tabled : Tabled (table (counts_of g) g.allowed)
+    unpacked-tabled : Tabled (table g.allowed)
     unpacked-tabled =
         record {
           formed = subst WellFormed (sym unpacked_is) v.formed;
-          keeps = keeps_read (table_columns (table (counts_of g) g.allowed)) g.count v.chains;
+          keeps = keeps_read (table_columns (table g.allowed)) g.count v.chains;
           sized = record { rows = sized; last = v.last; prev = v.prev; few = omega arith };
           back = v.back;
           few = v.few;
@@ -102,7 +97,5 @@ module _ (g : GlobalRoutingTree) (v : Stored g) where
           farthest-small = v.farthest-small;
         }
 
-    pub unpacked : (k : Counts) → k ≡ counts_of g → In32 g.allowed → (table_tree (table k (back g.allowed)) ≡ tree_of g) × Tabled (table k (back g.allowed))
-    unpacked k e f =
-        subst (λ (k : Counts). (table_tree (table k (back g.allowed)) ≡ tree_of g) × Tabled (table k (back g.allowed))) (sym e)
-        (subst (λ (z : ℤ). (table_tree (table (counts_of g) z) ≡ tree_of g) × Tabled (table (counts_of g) z)) (sym (home f)) (unpacked_is, unpacked-tabled))
+    pub unpacked : In32 g.allowed → (table_tree (table (back g.allowed)) ≡ tree_of g) × Tabled (table (back g.allowed))
+    unpacked f = subst (λ (z : ℤ). (table_tree (table z) ≡ tree_of g) × Tabled (table z)) (sym (home f)) (unpacked_is, unpacked-tabled)

@@ -1,35 +1,26 @@
 -- What the calls that edit a tree answer.
-use Rattle.std.specs.Prelude.{◌≡◌, List}
-use Rattle.geometry.specs.declared.Rectangle.{Rectangle}
-use Rattle.rectangles.specs.declared.Flat.{Flat}
-use Rattle.rectangles.specs.Rectangles.{Gathers}
-use Rattle.tables.specs.Table.{table_tree}
-use Rattle.editing.specs.declared.Edit as E
-use Rattle.editing.specs.declared.Answer.{Answer}
-use Rattle.editing.specs.declared.Answer.TheVariants.{Refused, Inserted}
+use Rattle.std.specs.Prelude.{◌≡◌, Result, Ok, Err}
+use Rattle.refusal.specs.declared.Refusal.{Refusal}
+use Rattle.refusal.specs.Refusals.{number_of}
+use Rattle.tree.specs.Tree.{Tree}
+use Rattle.tree.specs.Memory.{name_in}
+use Rattle.tree.specs.declared.NodeName.{NodeName}
 use Rattle.editing.specs.Edits as D
-use Rattle.editing.specs.Editing.{edit_of, AsBefore}
 use Rattle.global_router.specs.declared.GlobalRoutingTree.{GlobalRoutingTree}
-use Rattle.global_router.specs.declared.Edited.{Edited}
 use Rattle.global_router.specs.Stored.{tree_of, Stored}
 
--- an edit of g is x: "A refusal gives its number; the tree value" is "then as before"
-pub record EditedTo (x : D.Edit) (g : GlobalRoutingTree) (r : Edited) : Type 0 where
-  pub is : edit_of r.answer (tree_of r.tree) ≡ x
-  pub kept : AsBefore r.answer g r.tree
-  pub stored : Stored r.tree
+-- the paper's number, or the new node's name and the tree
+abbrev pub edited_of : Result NodeName Refusal → Tree → D.Edit
+edited_of (Err e) t = D.refused (number_of e)
+edited_of (Ok n) t = D.inserted (name_in n) t
 
--- the tree that stands beside an answer
-abbrev pub chosen : Answer → GlobalRoutingTree → GlobalRoutingTree → GlobalRoutingTree
-chosen (Refused n) before after = before
-chosen (Inserted n) before after = after
+-- after a refusal "the tree value" is "as before"
+abbrev pub AsBefore : {A : Type 0} → Result NodeName Refusal → A → A → Type 0
+AsBefore (Err e) before after = after ≡ before
+AsBefore (Ok n) before after = Unit {0}
 
--- what stands in a table after an edit is in memory
-pub record Finished (g : GlobalRoutingTree) (e : E.Edit) (r : Edited) : Type 0 where
-  pub is : edit_of r.answer (tree_of r.tree) ≡ edit_of e.answer (table_tree e.table)
-  pub kept : AsBefore r.answer g r.tree
-  pub stored : Stored r.tree
-
--- an edit of g by the rectangles whose numbers are gathered in k
-abbrev pub EditedBy : (List Rectangle → D.Edit) → Flat → GlobalRoutingTree → Edited → Type 0
-EditedBy x k g r = (ks : List Rectangle) → Gathers ks k → EditedTo (x ks) g r
+-- an edit of g is x, and leaves g'
+pub record EditedTo (x : D.Edit) (g : GlobalRoutingTree) (r : Result NodeName Refusal) (g' : GlobalRoutingTree) : Type 0 where
+  pub is : edited_of r (tree_of g') ≡ x
+  pub kept : AsBefore r g g'
+  pub stored : Stored g'

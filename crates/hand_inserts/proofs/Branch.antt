@@ -7,10 +7,12 @@ use mathlib.Core.List.{List, [], ◌∷◌, ◌++◌}
 use native.Mathlib.Omega.{arith}
 use lib.ListN.{length}
 use Rattle.geometry.specs.declared.Point.{Point}
-use Rattle.tree.specs.Tree.{Node, Tree, Name, at, node_at, without, replace_last}
+use Rattle.tree.specs.Tree.{Node, Tree, at, node_at, without, replace_last}
 use Rattle.tree.specs.Route.{new_node, splice}
 use Rattle.tree.specs.Edits.{spliced}
 use Rattle.tree.specs.Shape.{Linked}
+use Rattle.tree.specs.Memory.{name_in}
+use Rattle.tree.specs.declared.NodeName.{NodeName}
 use Rattle.tree.specs.WellFormed.{WellFormed}
 use Rattle.tree.proofs.Linking.{child_in, not_own}
 use Rattle.tree.proofs.Splicing.{At, knot, start, end, rest, at-splice, length-splice}
@@ -81,7 +83,7 @@ module _ (m : ℕ) (ns : List Node) (c : Store) (z : SizedStore m c) (k : Keeps 
           }
 
 -- ---- a tree that stands in columns
-module _ (n : Name) (p d : ℕ) {q : Point} {k : Counts} {c : Store} (v : Standing (Between n p d) 1 q k c) where
+module _ (n : NodeName) (p d : ℕ) {q : Point} {k : Counts} {c : Store} (v : Standing (Between (name_in n) p d) 1 q k c) where
   pub may_store : (d < length c.rows.xs) × (k.nodes < length c.rows.xs)
   may_store = (omega (arith, in_end v p d v.stands.when.0, v.stands.stores.size, v.room), omega (arith, v.room))
 
@@ -90,9 +92,9 @@ module _ (n : Name) (p d : ℕ) {q : Point} {k : Counts} {c : Store} (v : Standi
 
   module _ (row : Row) (er : row ≡ new_row n q p) (c' : Store) (rows : c'.rows ≡ set_parent (set_row c.rows k.nodes row) d k.nodes) (links : LinkedBetween c.links p d k.nodes c'.links) where
     abbrev new : Node
-    new = new_node n p q (d ∷ []) 0
+    new = new_node (name_in n) p q (d ∷ []) 0
 
-    module _ (t : Tree) (f : WellFormed t) (h : Between n p d t) (s : Stores t k c) where
+    module _ (t : Tree) (f : WellFormed t) (h : Between (name_in n) p d t) (s : Stores t k c) where
       rows-there : c'.rows ≡ set_parent (set_row c.rows (length t.nodes) (new_row n q p)) d (length t.nodes)
       rows-there = rows ∙ (λ i. set_parent (set_row c.rows (sym s.size i) (er i)) d (sym s.size i))
 
@@ -102,9 +104,9 @@ module _ (n : Name) (p d : ℕ) {q : Point} {k : Counts} {c : Store} (v : Standi
       space : length t.nodes < length c.rows.xs
       space = omega (arith, s.size, v.room)
 
-      stores-between : (r : Counts) → r ≡ counts_after n k → Stores (spliced t n q p d) r c'
+      stores-between : (r : Counts) → r ≡ counts_after (name_in n) k → Stores (spliced t (name_in n) q p d) r c'
       stores-between r ek =
-          stores-grown t f k c s _ v.stands.sized n _ (length-splice t.nodes p d new f.linked h.0 refl refl) r (naming.counts-one n k r ek) c'
+          stores-grown t f k c s _ v.stands.sized (name_in n) _ (length-splice t.nodes p d new f.linked h.0 refl refl) r (naming.counts-one (name_in n) k r ek) c'
           (keeps-splice _ t.nodes c v.stands.sized s.keeps s.backs f.linked p d h.0 space new refl refl c' links-there _ rows-there
           (naming.row_new n q p (d ∷ []) (omega (arith, in_start v p d v.stands.when.0, v.stands.stores.size, v.room, v.stands.sized.links.few))))
           (backs-splice _ t.nodes c v.stands.sized s.keeps s.backs f.linked p d h.0 space new refl refl c' links-there)
@@ -112,5 +114,5 @@ module _ (n : Name) (p d : ℕ) {q : Point} {k : Counts} {c : Store} (v : Standi
       sized-between_in : SizedStore (length c.rows.xs) c'
       sized-between_in = sized-splice _ t.nodes c v.stands.sized s.keeps s.backs f.linked p d h.0 space new refl refl c' links-there _ rows-there
 
-    pub did_between : (r : Counts) → r ≡ counts_after n k → BetweenInserted n q p d k c r c'
+    pub did_between : (r : Counts) → r ≡ counts_after (name_in n) k → BetweenInserted (name_in n) q p d k c r c'
     did_between r ek = record { stores = λ t f h s. stores-between t f h s r ek; sized = sized-between_in v.stands.tree v.stands.formed v.stands.when v.stands.stores }

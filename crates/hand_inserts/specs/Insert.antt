@@ -2,7 +2,7 @@
 use Rattle.std.specs.Prelude.{ℕ, ◌+◌, ◌<◌, ◌≡◌, length}
 use Rattle.geometry.specs.declared.Point.{Point}
 use Rattle.tree.specs.Tree.{Tree, Name, at, node_at}
-use Rattle.tree.specs.Measures.{kind_of, number_of}
+use Rattle.tree.specs.declared.NodeName.{NodeName}
 use Rattle.tree.specs.Route.{steiner_after, terminal_after, attached}
 use Rattle.tree.specs.Edits.{Next, spliced}
 use Rattle.search.specs.Walk.{node_index}
@@ -13,8 +13,8 @@ use Rattle.joining.specs.Store.{Store}
 use Rattle.joining.specs.Standing.{Grows}
 
 -- the row of a new node at q below p, with path 0
-abbrev pub new_row : Name → Point → ℕ → Row
-new_row n q p = record { point = q; path = 0; parent = node_index p; kind = kind_of n; number = number_of n }
+abbrev pub new_row : NodeName → Point → ℕ → Row
+new_row n q p = record { point = q; path = 0; parent = node_index p; name = n }
 
 -- one more node, for which a name is given out
 abbrev pub counts_after : Name → Counts → Counts

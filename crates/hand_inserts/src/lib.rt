@@ -1,4 +1,4 @@
-// Inserting a node by hand into a tree that is kept in lent buffers: last among the children of a node, or on a branch.
+// Inserting a node by hand into a tree that is kept in an arena: last among the children of a node, or on a branch.
 #![tactic(auto)]
 
 ghost use Rattle.std.specs.Prelude.{◌≡◌, ◌<◌};
@@ -6,24 +6,23 @@ ghost use Rattle.tree.specs.Limits.{most_nodes, no_node};
 ghost use Rattle.tree.specs.Memory.{name_in};
 ghost use Rattle.joining.specs.Links.{Spliceable};
 ghost use Rattle.joining.specs.Store.{set_row, set_parent};
-ghost use Rattle.joining.specs.Buffers.{links_in, stored, before, after, rows_before, rows_after};
-ghost use Rattle.joining.specs.Standing.{Standing};
+ghost use Rattle.joining.specs.Buffers.{links_in, rows_held};
+ghost use Rattle.joining.specs.Standing.{Standing, Holding, Became};
 ghost use Rattle.hand_inserts.specs.Insert.{new_row, counts_after, Below, Between, LeafInserted, LinkedBetween, BetweenInserted};
 
 use geometry::Point;
-use joining::{Counts, Row};
+use joining::{Arena, Counts, NodeRows, Row};
 use tree::{NodeIndex, NodeName, SteinerNumber};
 
 // The row of a new node at q below p.
 fn new_row(name: NodeName, q: Point, p: NodeIndex) -> Row
-    ensures { result ≡ new_row (name_in name) q p.0 }
+    ensures { result ≡ new_row name q p.0 }
 {
     Row {
         point: q,
         path: tree::UNMEASURED,
         parent: p,
-        kind: tables::kind_of_name(name),
-        number: tables::number_of_name(name),
+        name,
     }
 }
 
@@ -32,65 +31,42 @@ fn counts_after(k: Counts, name: NodeName) -> Counts
     requires { (k.nodes < no_node) × ((k.steiner.0 < no_node) × (k.terminal.0 < no_node)) }
     ensures { result ≡ counts_after (name_in name) k }
 {
-    let steiner = k.steiner;
-    let terminal = k.terminal;
     match name {
         NodeName::Source => Counts {
             nodes: k.nodes + 1,
-            steiner: steiner,
-            terminal: terminal,
+            ..k
         },
-        NodeName::Steiner(i) => {
-            let more = SteinerNumber(k.steiner.0 + 1);
-            Counts {
-                nodes: k.nodes + 1,
-                steiner: more,
-                terminal: terminal,
-            }
-        }
-        NodeName::Terminal(i) => joining::one_more(k),
+        NodeName::Steiner(_) => Counts {
+            nodes: k.nodes + 1,
+            steiner: SteinerNumber(k.steiner.0 + 1),
+            ..k
+        },
+        NodeName::Terminal(_) => k.one_more(),
     }
 }
 
 // ---- last among the children of a node
 
 // A node at q goes below p.
-pub fn insert_leaf(
-    points: &mut [i32; joining::POINTS],
-    path: &mut [u32; tree::MOST_NODES],
-    marks: &mut [u16; joining::MARKS],
-    links: &mut [u16; joining::LINKS],
-    k: Counts,
-    name: NodeName,
-    q: Point,
-    p: NodeIndex,
-) -> Counts
-    requires { Standing (Below (name_in name) p.0) 1 q k (stored points path marks links) }
-    ensures { LeafInserted (name_in name) q p.0 k (before points path marks links) result (after points path marks links) }
+pub fn insert_leaf(arena: &mut Arena, name: NodeName, q: Point, p: NodeIndex)
+    requires { Holding (Standing (Below (name_in name) p.0) 1 q) arena.old }
+    ensures { Became (LeafInserted (name_in name) q p.0) arena.old arena.new }
 {
+    let k = arena.counts;
     let row = new_row(name, q, p);
-    let n = NodeIndex(k.nodes);
-    joining::attach(points, path, marks, links, n, row);
-    counts_after(k, name)
+    arena.attach(NodeIndex(k.nodes), row);
+    arena.counts = counts_after(k, name);
 }
 
 // ---- on a branch
 
 // The row of n, and n as the parent of c.
-fn store_between(
-    points: &mut [i32; joining::POINTS],
-    path: &mut [u32; tree::MOST_NODES],
-    marks: &mut [u16; joining::MARKS],
-    c: NodeIndex,
-    n: NodeIndex,
-    row: Row,
-)
+fn store_between(nodes: &mut NodeRows, c: NodeIndex, n: NodeIndex, row: Row)
     requires { (c.0 < most_nodes) × (n.0 < most_nodes) }
-    ensures { rows_after points path marks ≡ set_parent (set_row (rows_before points path marks) n.0 row) c.0 n.0 }
+    ensures { rows_held nodes.new ≡ set_parent (set_row (rows_held nodes.old) n.0 row) c.0 n.0 }
 {
-    joining::store_row(points, path, marks, n, row);
-    let i = search::wide(c.0);
-    marks[i] = n.0;
+    nodes.store_row(n, row);
+    nodes.store_parent(c, n);
 }
 
 // n goes between p and its child c.
@@ -104,23 +80,14 @@ fn link_between(links: &mut [u16; joining::LINKS], p: NodeIndex, c: NodeIndex, n
 }
 
 // A node at q goes on the branch from p to c, which becomes its one child.
-pub fn insert_between(
-    points: &mut [i32; joining::POINTS],
-    path: &mut [u32; tree::MOST_NODES],
-    marks: &mut [u16; joining::MARKS],
-    links: &mut [u16; joining::LINKS],
-    k: Counts,
-    name: NodeName,
-    q: Point,
-    p: NodeIndex,
-    c: NodeIndex,
-) -> Counts
-    requires { Standing (Between (name_in name) p.0 c.0) 1 q k (stored points path marks links) }
-    ensures { BetweenInserted (name_in name) q p.0 c.0 k (before points path marks links) result (after points path marks links) }
+pub fn insert_between(arena: &mut Arena, name: NodeName, q: Point, p: NodeIndex, c: NodeIndex)
+    requires { Holding (Standing (Between (name_in name) p.0 c.0) 1 q) arena.old }
+    ensures { Became (BetweenInserted (name_in name) q p.0 c.0) arena.old arena.new }
 {
-    let row = new_row(name, q, p);
+    let k = arena.counts;
     let n = NodeIndex(k.nodes);
-    store_between(points, path, marks, c, n, row);
-    link_between(links, p, c, n);
-    counts_after(k, name)
+    let row = new_row(name, q, p);
+    store_between(&mut arena.nodes, c, n, row);
+    link_between(&mut arena.links, p, c, n);
+    arena.counts = counts_after(k, name);
 }

@@ -34,9 +34,6 @@ use Rattle.inserting.specs.Insert.{InsertedSimple, QueryOf, Insertable, Inserted
 
 -- ---- at the closest node
 module _ {q : Point} {k : Counts} {c : Store} (v : Standing Anything 1 q k c) where
-  pub may_find : NearPoints k.nodes q c.rows.xs c.rows.ys
-  may_find = near-points v.stands.formed v.stands.stores.size v.stands.stores.keeps v.stands.sized.rows (omega (arith, v.room)) v.small v.within
-
   module _ (p : ℕ) (e : ClosestOf k.nodes k.nodes c.rows.xs c.rows.ys q p) where
     is : (t : Tree) → Stores t k c → p ≡ closest t.nodes q (length t.nodes)
     is t s = closest_is s.size s.keeps q e
@@ -47,7 +44,7 @@ module _ {q : Point} {k : Counts} {c : Store} (v : Standing Anything 1 q k c) wh
     pub may_simple : Attachable c k.nodes p
     may_simple = may_attach v (omega arith) p (in_tree v.stands.tree v.stands.formed v.stands.stores)
 
-    pub did_simple : (c' : Store) → RowAttached c k.nodes (terminal_row p q 0 k.terminal.0) c' → (r : Counts) → r ≡ one_more k → InsertedSimple q k c r c'
+    pub did_simple : (c' : Store) → RowAttached c k.nodes (terminal_row p q 0 k.terminal) c' → (r : Counts) → r ≡ one_more k → InsertedSimple q k c r c'
     unfolding insert_simple
     did_simple c' o r ek =
         subst (λ (x : Counts). InsertedSimple q k c x c') (sym ek)
@@ -57,23 +54,6 @@ module _ {q : Point} {k : Counts} {c : Store} (v : Standing Anything 1 q k c) wh
               (stores-terminal t f k c s _ v.stands.sized (omega (arith, v.room)) p (in_tree t f s) q 0 0 refl c' o);
           sized = sized-terminal v.stands.tree v.stands.formed k c v.stands.stores _ v.stands.sized (omega (arith, v.room)) p (in_tree v.stands.tree v.stands.formed v.stands.stores) q 0 0 refl c' o;
         })
-
--- ---- either way
--- a way by another name
-module _ {way x : Way} (e : way ≡ x) {a : Query} {k : Counts} {c : Store} where
-  pub asked_as : Insertable way a k c → Insertable x a k c
-  asked_as v = subst (λ (y : Way). Insertable y a k c) e v
-
-  pub inserted_as : (ks : List ℤ) {r : Counts} {c' : Store} → Inserted x ks a k c r c' → Inserted way ks a k c r c'
-  inserted_as ks {r} {c'} o = subst (λ (y : Way). Inserted y ks a k c r c') (sym e) o
-
--- at the closest node the query's limit and allowance are not asked for
-module _ {a : Query} {k : Counts} {c : Store} where
-  pub by_simple : {way : Way} → Insertable way a k c → Standing Anything 1 a.point k c
-  by_simple v = weaker v (λ h. tt) (omega arith)
-
-  pub did_by_simple : (ks : List ℤ) {r : Counts} {c' : Store} → InsertedSimple a.point k c r c' → Inserted Simple ks a k c r c'
-  did_by_simple ks o = record { stores = λ t f h s. o.stores t f tt s; sized = o.sized }
 
 -- ---- by the search
 most : (x : T.Join) → new_nodes x ≤ 2

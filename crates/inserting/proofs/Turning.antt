@@ -131,7 +131,7 @@ module _ (px py : List ℤ) (a : Query) (c₀ : Store) (v : Routable px py a c�
           near = v.near;
         }
 
-    alone : SourceAlone a c
+    alone : SourceAlone a first_counts c
     alone w =
         record {
           formed = formed-start a.point v.source a.allowed w a.limit;
@@ -147,19 +147,13 @@ module _ (px py : List ℤ) (a : Query) (c₀ : Store) (v : Routable px py a c�
           farthest = refl;
         }
 
-    pub may_insert : Routable px py a c × SourceAlone a c
-    may_insert = (still_routable, alone)
+    pub may_insert : (k : Counts) → k ≡ first_counts → Routable px py a c × SourceAlone a k c
+    may_insert k e = (still_routable, subst (λ (x : Counts). SourceAlone a x c) (sym e) alone)
 
   module _ (way : Way) (ks : List ℤ) where
-    pub starts : SourceAlone a c₀ → (k : Counts) → k ≡ first_counts → Under way ks px py a 0 k c₀
+    pub starts : (k : Counts) → SourceAlone a k c₀ → Under way ks px py a 0 k c₀
     unfolding tree_after up_to inserts
-    starts holds k e =
-        record {
-          low = omega arith;
-          next = ap (λ (x : Counts). x.terminal.0) e;
-          sized = v.sized;
-          holds = λ w. subst (λ (x : Counts). Holds a w x c₀ (rooted a.point a.allowed w a.limit)) (sym e) (holds w);
-        }
+    starts k holds = record { low = omega arith; next = sym (holds 0).stores.terminal; sized = v.sized; holds = holds }
 
     module _ (i : ℕ) (k : Counts) (c : Store) (u : Under way ks px py a i k c) where
       -- each terminal brought at most two nodes

@@ -8,6 +8,7 @@ use Rattle.tree.specs.Route.{inserts, rooted}
 use Rattle.tree.specs.WellFormed.{WellFormed, Counted}
 use Rattle.search.specs.declared.Query.{Query}
 use Rattle.tree.specs.Memory.{point_at}
+use Rattle.tree.specs.declared.NodeName.TheVariants.{Source}
 use Rattle.search.specs.Walk.{node_index}
 use Rattle.joining.specs.declared.Row.{Row}
 use Rattle.joining.specs.declared.Counts.{Counts}
@@ -18,7 +19,7 @@ use Rattle.inserting.specs.Insert.{QueryOf, step_of}
 
 -- the row of a source at s: no_node stands for its parent
 abbrev pub source_row : Point → Row
-source_row s = record { point = s; path = 0; parent = node_index no_node; kind = 0; number = 0 }
+source_row s = record { point = s; path = 0; parent = node_index no_node; name = Source }
 
 -- the counts of a source alone
 abbrev pub first_counts : Counts
@@ -64,8 +65,8 @@ pub record Begun (c : Store) (s : Point) (c' : Store) : Type 0 where
   pub next : c'.links.next ≡ c.links.next
 
 -- the columns hold the source alone, whatever the farthest distance
-abbrev pub SourceAlone : Query → Store → Type 0
-SourceAlone a c = (w : ℕ) → Holds a w first_counts c (rooted a.point a.allowed w a.limit)
+abbrev pub SourceAlone : Query → Counts → Store → Type 0
+SourceAlone a k c = (w : ℕ) → Holds a w k c (rooted a.point a.allowed w a.limit)
 
 -- all terminals are in: the columns and counts give the whole tree, which is well formed
 pub record RoutedColumns (way : Way) (ks px py : List ℤ) (a : Query) (k : Counts) (c : Store) : Type 0 where

@@ -1,17 +1,18 @@
-// Inserting terminals into a tree that is kept in four lent buffers: at the closest node or where the search finds, and the loop over sorted terminals.
+// Inserting terminals into a tree that is kept in an arena: at the closest node or where the search finds, and the loop over sorted terminals.
 #![tactic(auto)]
 
 ghost use Rattle.std.specs.Prelude.{◌≡◌, ◌<◌, length};
-ghost use Rattle.joining.specs.Buffers.{stored, before, after, store_in};
-ghost use Rattle.joining.specs.Standing.{Standing, Anything};
+ghost use Rattle.joining.specs.Buffers.{stored};
+ghost use Rattle.joining.specs.Standing.{Standing, Anything, Holding, Became};
 ghost use Rattle.inserting.specs.Insert.{InsertedSimple, Searchable, FoundIn, Insertable, Inserted};
 ghost use Rattle.inserting.specs.Route.{first_counts, query_at, Begun, SourceAlone, Routable, RoutedColumns};
 
-use joining::{Counts, Row};
-use search::{Found, Query};
-use tree::{NodeIndex, SteinerNumber, TerminalNumber};
+use geometry::Point;
+use joining::{Arena, Counts, Row};
+use search::{Found, LinkColumns, NodeColumns, Query};
+use tree::{NodeIndex, NodeName, SteinerNumber, TerminalNumber};
 
-// How a terminal finds its place: at the closest node, or by the search.
+// How a terminal finds its place: at the closest node, or by the search. Two ways that take the same, so no Option.
 #[derive(Clone, Copy)]
 pub enum Way {
     Simple,
@@ -20,193 +21,120 @@ pub enum Way {
 
 // ---- one terminal
 
-// A terminal at the query's point joins the closest node; its path length stays 0.
-fn insert_simple(
-    points: &mut [i32; joining::POINTS],
-    path: &mut [u32; tree::MOST_NODES],
-    marks: &mut [u16; joining::MARKS],
-    links: &mut [u16; joining::LINKS],
-    k: Counts,
-    a: Query,
-) -> Counts
-    requires { Standing Anything 1 a.point k (stored points path marks links) }
-    ensures { InsertedSimple a.point k (before points path marks links) result (after points path marks links) }
+// A terminal at q joins the closest node; its path length stays 0.
+fn insert_simple(arena: &mut Arena, q: Point)
+    requires { Holding (Standing Anything 1 q) arena.old }
+    ensures { Became (InsertedSimple q) arena.old arena.new }
 {
-    let q = a.point;
-    let p = nearest::closest_node(points, k.nodes, q);
+    let k = arena.counts;
+    let p = nearest::closest_node(&arena.nodes.points, k.nodes, q);
     let row = Row {
         point: q,
         path: tree::UNMEASURED,
         parent: p,
-        kind: tree::TERMINAL,
-        number: k.terminal.0,
+        name: NodeName::Terminal(k.terminal),
     };
-    let n = NodeIndex(k.nodes);
-    joining::attach(points, path, marks, links, n, row);
-    joining::one_more(k)
+    arena.attach(NodeIndex(k.nodes), row);
+    arena.counts = k.one_more();
 }
 
 // Where the search over the first n nodes has the query's point join.
-fn find<'a>(
-    points: &'a [i32; joining::POINTS],
-    path: &'a [u32; tree::MOST_NODES],
-    marks: &'a [u16; joining::MARKS],
-    links: &'a [u16; joining::LINKS],
-    n: usize,
-    a: Query,
-    ks: &'a [i32],
-) -> Found
-    requires { Searchable n a (store_in points.now path.now marks.now links.now) }
-    ensures { FoundIn n a (store_in points.now path.now marks.now links.now) ks.now result }
+fn find(arena: &Arena, n: usize, a: Query, ks: &[i32]) -> Found
+    requires { Searchable n a (stored arena.now) }
+    ensures { FoundIn n a (stored arena.now) ks.now result }
 {
-    let at = &points[..];
-    let of = &marks[..];
-    let to = &links[..];
-    nearest::find_join(
-        n,
-        a,
-        &at[0..joining::YS],
-        &at[joining::YS..joining::POINTS],
-        path,
-        &of[0..joining::KINDS],
-        &to[0..joining::PREVS],
-        &to[joining::PREVS..joining::NEXTS],
-        ks,
-    )
+    let at = &arena.nodes.points[..];
+    let of = &arena.nodes.marks[..];
+    let to = &arena.links[..];
+    let nodes = NodeColumns {
+        xs: &at[0..joining::YS],
+        ys: &at[joining::YS..joining::POINTS],
+        path: &arena.nodes.path,
+    };
+    let links = LinkColumns {
+        last: &to[0..joining::PREVS],
+        prev: &to[joining::PREVS..joining::NEXTS],
+    };
+    nearest::find_join(n, a, nodes, &of[0..joining::KINDS], links, ks)
 }
 
 // A terminal at the query's point joins where the search finds.
-fn insert_by_search(
-    points: &mut [i32; joining::POINTS],
-    path: &mut [u32; tree::MOST_NODES],
-    marks: &mut [u16; joining::MARKS],
-    links: &mut [u16; joining::LINKS],
-    k: Counts,
-    a: Query,
-    ks: &[i32],
-) -> Counts
-    requires { Insertable Way.Search a k (stored points path marks links) }
-    ensures { Inserted Way.Search ks.now a k (before points path marks links) result (after points path marks links) }
+fn insert_by_search(arena: &mut Arena, a: Query, ks: &[i32])
+    requires { Holding (Insertable Way.Search a) arena.old }
+    ensures { Became (Inserted Way.Search ks.now a) arena.old arena.new }
 {
-    let n = search::wide(k.nodes);
-    let q = a.point;
-    let f = find(points, path, marks, links, n, a, ks);
-    let j = f.join;
-    joining::join(points, path, marks, links, k, q, j)
+    let n = usize::from(arena.counts.nodes);
+    let f = find(arena, n, a, ks);
+    arena.join(a.point, f.join);
 }
 
 // The next terminal joins, by one way or the other.
-fn insert_terminal(
-    points: &mut [i32; joining::POINTS],
-    path: &mut [u32; tree::MOST_NODES],
-    marks: &mut [u16; joining::MARKS],
-    links: &mut [u16; joining::LINKS],
-    k: Counts,
-    way: Way,
-    a: Query,
-    ks: &[i32],
-) -> Counts
-    requires { Insertable way a k (stored points path marks links) }
-    ensures { Inserted way ks.now a k (before points path marks links) result (after points path marks links) }
+fn insert_terminal(arena: &mut Arena, way: Way, a: Query, ks: &[i32])
+    requires { Holding (Insertable way a) arena.old }
+    ensures { Became (Inserted way ks.now a) arena.old arena.new }
 {
     match way {
-        Way::Simple => insert_simple(points, path, marks, links, k, a),
-        Way::Search => insert_by_search(points, path, marks, links, k, a, ks),
+        Way::Simple => insert_simple(arena, a.point),
+        Way::Search => insert_by_search(arena, a, ks),
     }
 }
 
 // ---- the route
 
-// The source alone, at a's point.
-fn store_source(
-    points: &mut [i32; joining::POINTS],
-    path: &mut [u32; tree::MOST_NODES],
-    marks: &mut [u16; joining::MARKS],
-    links: &mut [u16; joining::LINKS],
-    a: Query,
-)
-    ensures { Begun (before points path marks links) a.point (after points path marks links) }
-{
-    let s = a.point;
-    let none = NodeIndex(tree::NO_NODE);
-    let source = NodeIndex(0);
-    let row = Row {
-        point: s,
-        path: 0,
-        parent: none,
-        kind: tree::SOURCE,
-        number: 0,
-    };
-    joining::store_row(points, path, marks, source, row);
-    links[0] = tree::NO_NODE;
-}
-
 // The counts of a source alone.
 fn first_counts() -> Counts
     ensures { result ≡ first_counts }
 {
-    let steiner = SteinerNumber(1);
-    let terminal = TerminalNumber(1);
     Counts {
         nodes: 1,
-        steiner: steiner,
-        terminal: terminal,
+        steiner: SteinerNumber(1),
+        terminal: TerminalNumber(1),
     }
 }
 
+// The source alone, at s.
+fn store_source(arena: &mut Arena, s: Point)
+    ensures begun { Begun (stored arena.old) s (stored arena.new) }
+    ensures counts { arena.new.counts ≡ first_counts }
+{
+    let row = Row {
+        point: s,
+        path: 0,
+        parent: NodeIndex(tree::NO_NODE),
+        name: NodeName::Source,
+    };
+    arena.nodes.store_row(NodeIndex(0), row);
+    arena.links[0] = tree::NO_NODE;
+    arena.counts = first_counts();
+}
+
 // The search's question for the i-th terminal.
-fn query_at<'a>(px: &'a [i32], py: &'a [i32], i: usize, a: Query) -> Query
+fn query_at(px: &[i32], py: &[i32], i: usize, a: Query) -> Query
     requires { (i < length px.now) × (i < length py.now) }
     ensures { result ≡ query_at px.now py.now i a }
 {
-    let q = tree::point_at(px, py, i);
     Query {
-        point: q,
-        limit: a.limit,
-        allowed: a.allowed,
+        point: tree::point_at(px, py, i),
+        ..a
     }
 }
 
 // The terminals join a source alone, in the order given.
-fn insert_all<'a>(
-    points: &mut [i32; joining::POINTS],
-    path: &mut [u32; tree::MOST_NODES],
-    marks: &mut [u16; joining::MARKS],
-    links: &mut [u16; joining::LINKS],
-    px: &'a [i32],
-    py: &'a [i32],
-    ks: &'a [i32],
-    way: Way,
-    a: Query,
-) -> Counts
-    requires { Routable px.now py.now a (stored points path marks links) × SourceAlone a (stored points path marks links) }
-    ensures { RoutedColumns way ks.now px.now py.now a result (after points path marks links) }
+fn insert_all(arena: &mut Arena, px: &[i32], py: &[i32], ks: &[i32], way: Way, a: Query)
+    requires { Routable px.now py.now a (stored arena.old) × Holding (SourceAlone a) arena.old }
+    ensures { Holding (RoutedColumns way ks.now px.now py.now a) arena.new }
 {
-    let mut k = first_counts();
-    let mut i: usize = 0;
-    while i < px.len() {
+    for i in 0..px.len() {
         let b = query_at(px, py, i, a);
-        k = insert_terminal(points, path, marks, links, k, way, b, ks);
-        i = i + 1;
+        insert_terminal(arena, way, b, ks);
     }
-    k
 }
 
 // The tree of the source at a's point and the terminals, joined in the order given.
-pub fn route_sorted<'a>(
-    points: &mut [i32; joining::POINTS],
-    path: &mut [u32; tree::MOST_NODES],
-    marks: &mut [u16; joining::MARKS],
-    links: &mut [u16; joining::LINKS],
-    px: &'a [i32],
-    py: &'a [i32],
-    ks: &'a [i32],
-    way: Way,
-    a: Query,
-) -> Counts
-    requires { Routable px.now py.now a (stored points path marks links) }
-    ensures { RoutedColumns way ks.now px.now py.now a result (after points path marks links) }
+pub fn route_sorted(arena: &mut Arena, px: &[i32], py: &[i32], ks: &[i32], way: Way, a: Query)
+    requires { Routable px.now py.now a (stored arena.old) }
+    ensures { Holding (RoutedColumns way ks.now px.now py.now a) arena.new }
 {
-    store_source(points, path, marks, links, a);
-    insert_all(points, path, marks, links, px, py, ks, way, a)
+    store_source(arena, a.point);
+    insert_all(arena, px, py, ks, way, a);
 }

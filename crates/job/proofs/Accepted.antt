@@ -13,13 +13,14 @@ use borrow.Author.Tests.{leb-true, not-false}
 use Rattle.geometry.specs.declared.Point.{Point}
 use Rattle.geometry.specs.declared.Rectangle.{Rectangle}
 use Rattle.geometry.specs.Geometry.{origin, invalid, contains, inside}
-use Rattle.geometry.specs.Signed.{and_left, and_right, no_way}
+use Rattle.std.specs.Cmp.{first_so, second_so}
+use Rattle.geometry.specs.Signed.{no_way}
 use Rattle.geometry.specs.Laws.{Within}
 use Rattle.tree.specs.Limits.{reach, most_terminals}
 use Rattle.tree.specs.Memory.{point_at}
 use Rattle.tree.specs.Search.{any_of}
 use Rattle.job.specs.Job.{Job, accepted, coordinates, outside, invalid_keepout, terminals_of, source_of, job_of, read_job}
-use Rattle.job.specs.Reading.{filled, packed, refusal_number}
+use Rattle.job.specs.Reading.{filled, packed}
 use Rattle.job.specs.Accepted.{Valid, Accepted}
 use Rattle.job.proofs.Any.{or_no, none_of}
 use Rattle.job.proofs.Verdict.{passed, few_of}
@@ -28,9 +29,9 @@ use Rattle.job.proofs.Packing.{terminals-length, keepouts-length}
 -- ---- one point, one keepout
 near : (M : ℕ) (z : ℤ) → inside (record { lb = neg_ℤ (pos M); ub = pos M }) z ≡ true → nat_abs z ≤ M
 unfolding inside
-near M (pos n) e = leb-true n M (and_right (le_z (neg_ℤ (pos M)) (pos n)) (leb n M) e)
-near zero (negsuc n) e = no_way (and_left false true e)
-near (suc m) (negsuc n) e = omega (arith, leb-true n m (and_left (leb n m) true e))
+near M (pos n) e = leb-true n M (second_so (le_z (neg_ℤ (pos M)) (pos n)) (leb n M) e)
+near zero (negsuc n) e = no_way (first_so false true e)
+near (suc m) (negsuc n) e = omega (arith, leb-true n m (first_so (leb n m) true e))
 
 pub within : (p : Point) → outside p ≡ false → Within reach p
 unfolding outside contains
@@ -38,14 +39,14 @@ within p e =
     let x = inside coordinates p.xcoord in
     let y = inside coordinates p.ycoord in
     let h = not-false (x && y) e in
-    record { xcoord = near reach p.xcoord (and_left x y h); ycoord = near reach p.ycoord (and_right x y h) }
+    record { xcoord = near reach p.xcoord (first_so x y h); ycoord = near reach p.ycoord (second_so x y h) }
 
 valid : (k : Rectangle) → invalid_keepout k ≡ false → Valid k
 unfolding invalid_keepout
 valid k e = let h = or_no (invalid k.xcoord) (invalid k.ycoord) e in record { xcoord = h.0; ycoord = h.1 }
 
 -- ---- the job
-accepted_of : (b : List ℕ) → refusal_number (read_job b) ≡ 0 → Accepted (job_of b)
+accepted_of : (b : List ℕ) {j : Job} → read_job b ≡ accepted j → Accepted (job_of b)
 accepted_of b e =
     let p = passed b e in
     let few = few_of b p.few in
@@ -61,9 +62,8 @@ accepted_of b e =
 -- every job that is read
 pub accepted-job : (b : List ℕ) {j : Job} → read_job b ≡ accepted j → Accepted j
 accepted-job b {j} e =
-    let z : refusal_number (read_job b) ≡ 0 = ap refusal_number e in
-    let same : job_of b ≡ j = same-job (sym (passed b z).is ∙ e) in
-    subst Accepted same (accepted_of b z)
+    let same : job_of b ≡ j = same-job (sym (passed b e).is ∙ e) in
+    subst Accepted same (accepted_of b e)
   where
     same-job : {k l : Job} → accepted k ≡ accepted l → k ≡ l
     same-job h = cc

@@ -1,5 +1,5 @@
--- Laws of things side by side: their number, one more at the end, the rest from the i-th on; and two loops over them,
--- a scan that stops at the first that a test holds of, and a column that is filled from its start.
+-- Laws of things side by side: their number, one more at the end; a column that is filled from its start;
+-- and whether a test holds of any, as `any` over their indices answers.
 use mathlib.Core.Path.{◌≡◌, refl, sym, ap, ◌∙◌}
 use mathlib.Core.Bool.{Bool, true, false, ◌||◌}
 use mathlib.Core.List.{List, [], ◌∷◌, ◌++◌, append_assoc, map}
@@ -9,7 +9,9 @@ use native.Mathlib.Numerals.{add-one}
 use native.Mathlib.Omega.{arith}
 use lib.ListN.{length, drop, set, get_or}
 use lib.Seq.{set_at, drop-cons}
-use Rattle.geometry.proofs.Chains.{or-stop, or_then}
+use Rattle.std.specs.Bool.{MatchBool}
+use Rattle.std.specs.List.{list_any, range_with_len, HoldsAt, AllWithin}
+use Rattle.std.proofs.lemmas.List.Folds.{list_any_at, list_any_none}
 use Rattle.tree.specs.Search.{any_of}
 use Rattle.job.specs.Layout.{row}
 
@@ -41,46 +43,6 @@ module _ {A : Type 0} (f : ℕ → A) (w : ℕ) where
       ap (λ (l : List A). f at ∷ l)
       (row_snoc (at + w) n ∙ ap (λ (k : ℕ). row f w (at + w) n ++ (f k ∷ [])) (omega (arith, mul-suc w n)))
 
-  -- the i-th, and the rest
-  row_next : (at n i : ℕ) → i < n → row f w (at + w * i) (n - i) ≡ f (at + w * i) ∷ row f w (at + w * (i + 1)) (n - (i + 1))
-  unfolding row
-  row_next at n i h =
-      let less : n - i ≡ suc (n - (i + 1)) = omega arith in
-      let step : at + w * i + w ≡ at + w * (i + 1) = rw (add-one, mul-suc w i) (omega arith) in
-      ap (row f w (at + w * i)) less ∙ ap (λ (k : ℕ). f (at + w * i) ∷ row f w k (n - (i + 1))) step
-
-  -- a scan by a test g: what is left from the i-th on decides
-  module _ (g : A → Bool) (at n : ℕ) where
-    abbrev rest : ℕ → Bool
-    rest i = any_of g (row f w (at + w * i) (n - i))
-
-    pub Left : ℕ → Type 0
-    Left i = rest i ≡ any_of g (row f w at n)
-
-    pub left-all : Left 0
-    unfolding Left
-    left-all =
-        let e : at + w * 0 ≡ at = omega (arith, mul-zero w) in
-        let k : n - 0 ≡ n = omega arith in
-        λ i. any_of g (row f w (e i) (k i))
-
-    pub left-none : (i : ℕ) → Left i → n ≤ i → false ≡ any_of g (row f w at n)
-    unfolding Left row any_of
-    left-none i l h = let z : 0 ≡ n - i = omega arith in ap (λ (k : ℕ). any_of g (row f w (at + w * i) k)) z ∙ l
-
-    -- x is the i-th, and t what the test says of it
-    module _ (i : ℕ) (l : Left i) (h : i < n) (x : A) (e : x ≡ f (at + w * i)) (t : Bool) (r : t ≡ g x) where
-      one : (g (f (at + w * i)) || rest (i + 1)) ≡ any_of g (row f w at n)
-      unfolding Left any_of
-      one = sym (ap (any_of g) (row_next at n i h)) ∙ l
-
-      pub left_hit : t ≡ true → true ≡ any_of g (row f w at n)
-      left_hit y = or-stop (rest (i + 1)) (r ∙ ap g e) y ∙ one
-
-      pub left-next : t ≡ false → Left (i + 1)
-      unfolding Left
-      left-next y = or_then (r ∙ ap g e) y refl ∙ one
-
   -- a column l, whose first i are what is read: it is l'
   pub Filled : List A → ℕ → ℕ → List A → Type 0
   Filled l at i l' = l' ≡ row f w at i ++ drop i l
@@ -103,3 +65,28 @@ module _ {A : Type 0} (f : ℕ → A) (w : ℕ) where
     pub fill_all : (n i : ℕ) (l' : List A) → Filled l at i l' → i ≡ n → l' ≡ row f w at n ++ drop n l
     unfolding Filled
     fill_all n i l' e z = e ∙ ap (λ (k : ℕ). row f w at k ++ drop k l) z
+
+-- ---- a test of any of n things side by side, where p tests the i-th
+-- what `any` answers over the n indices from i on
+abbrev pub AnyOf : (ℕ → Bool) → ℕ → ℕ → Bool → Type 0
+AnyOf p i n r =
+    MatchBool r
+    ((k : ℕ) × (k < length (range_with_len i n)) × HoldsAt (λ x. p x ≡ true) (range_with_len i n) k)
+    (AllWithin (λ x. p x ≡ false) (range_with_len i n) 0 (length (range_with_len i n)))
+
+any_indices : (p : ℕ → Bool) (i n : ℕ) (r : Bool) → AnyOf p i n r → r ≡ list_any p (range_with_len i n)
+any_indices p i n true h = sym (list_any_at p (range_with_len i n) h.0 0 h.1 (h.2 0))
+any_indices p i n false h = sym (list_any_none p (range_with_len i n) (λ k d l. h k d (omega arith) l))
+
+module _ {A : Type 0} (f : ℕ → A) (w at : ℕ) (g : A → Bool) where
+  any_row : (i n : ℕ) → list_any (λ k. g (f (at + w * k))) (range_with_len i n) ≡ any_of g (row f w (at + w * i) n)
+  unfolding any_of row
+  any_row i zero = refl
+  any_row i (suc n) =
+      let step : at + w * i + w ≡ at + w * (i + 1) = rw (add-one, mul-suc w i) (omega arith) in
+      ap (λ (r : Bool). g (f (at + w * i)) || r) (any_row (i + 1) n ∙ ap (λ (k : ℕ). any_of g (row f w k n)) (sym step))
+
+  pub any_is : (n : ℕ) (r : Bool) → AnyOf (λ k. g (f (at + w * k))) 0 n r → r ≡ any_of g (row f w at n)
+  any_is n r h =
+      let start : at + w * 0 ≡ at = omega (arith, mul-zero w) in
+      any_indices _ 0 n r h ∙ any_row 0 n ∙ ap (λ (k : ℕ). any_of g (row f w k n)) start

@@ -11,8 +11,7 @@ use Rattle.tree.specs.Search.{any_of}
 use Rattle.tree.specs.Route.{times}
 use Rattle.wire.specs.Fields.{le, twos32, le_bytes, bits32, int32_bytes}
 use Rattle.job.specs.Layout.{row}
-use Rattle.job.specs.Job.{accepted, mode_of, outside, invalid_keepout, read_job}
-use Rattle.job.specs.Reading.{refusal_number}
+use Rattle.job.specs.Job.{Answer, refused, accepted, mode_of, outside, invalid_keepout, read_job}
 use Rattle.job.specs.Alike.{AlikeButOrder}
 use Rattle.job.specs.declared.Mode.TheVariants.{Constraints}
 
@@ -47,6 +46,11 @@ low = negsuc 999999
 
 abbrev high : ℤ
 high = pos 1000000
+
+-- the number of a refusal; 0 where there is none
+abbrev refusal_number : Answer → ℕ
+refusal_number (refused n) = n
+refusal_number (accepted j) = 0
 
 refusals : List (List ℕ) → List ℕ
 refusals = map (λ (b : List ℕ). refusal_number (read_job b))

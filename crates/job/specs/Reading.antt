@@ -1,15 +1,13 @@
 -- A job in memory, and what `read_job` gives for each answer. Definitions only.
-use Rattle.std.specs.Prelude.{ℕ, ◌-◌, ◌*◌, List, [], ◌∷◌, ◌++◌, map, length, take, replicate, ℤ, pos}
+use Rattle.std.specs.Prelude.{◌≡◌, ℕ, Result, Ok, Err, ◌-◌, ◌*◌, List, [], ◌∷◌, ◌++◌, map, length, take, replicate, ℤ, pos}
 use Rattle.geometry.specs.declared.Point.{Point}
 use Rattle.geometry.specs.declared.Rectangle.{Rectangle}
-use Rattle.geometry.specs.Geometry.{origin}
 use Rattle.tree.specs.Limits.{most_terminals, most_keepouts}
 use Rattle.tree.specs.Memory.{points_of, keepouts_of}
-use Rattle.job.specs.Job.{Job, Answer, refused, accepted}
+use Rattle.job.specs.Job.{Job, Answer, refused, accepted, job_of, read_job}
 use Rattle.job.specs.declared.RoutingJob.{RoutingJob}
-use Rattle.job.specs.declared.Reading.{Reading}
-use Rattle.job.specs.declared.ReadAnswer.TheVariants.{Refused, Accepted}
-use Rattle.job.specs.declared.Mode.TheVariants.{Simple}
+use Rattle.refusal.specs.declared.Refusal.{Refusal}
+use Rattle.refusal.specs.Refusals.{number_of}
 
 -- ---- points in two columns, rectangles in one
 abbrev pub xcoords : List Point → List ℤ
@@ -50,16 +48,12 @@ unpacked r =
     }
 
 -- ---- the answer
--- the job that stands beside a refusal
-abbrev pub no_job : Job
-no_job = record { mode = Simple; source = origin; terminals = []; keepouts = [] }
+-- "A refusal gives its number"; else there is the job
+abbrev pub answer_in : Result RoutingJob Refusal → Answer
+answer_in (Err e) = refused (number_of e)
+answer_in (Ok r) = accepted (unpacked r)
 
--- "A refusal gives its number"
-abbrev pub reading_of : Answer → Reading
-reading_of (refused n) = record { answer = Refused n; job = packed no_job }
-reading_of (accepted j) = record { answer = Accepted; job = packed j }
-
--- the number of a refusal; 0 where there is none
-abbrev pub refusal_number : Answer → ℕ
-refusal_number (refused n) = n
-refusal_number (accepted j) = 0
+-- what the tests say of a file: the first refusal, or that it is accepted
+abbrev pub Tested : List ℕ → Result (Unit {0}) Refusal → Type 0
+Tested b (Err e) = read_job b ≡ refused (number_of e)
+Tested b (Ok u) = read_job b ≡ accepted (job_of b)

@@ -10,9 +10,10 @@ use lib.IntN.{ℤ}
 use lib.Seq.{length-take-le, take-set-le, take-set-lt, drop-set-lt, drop-set-add, get_or-take, get_or-drop, set_out, take-add, take-take, take-append-le, take_at, drop_at, drop-drop}
 use borrow.Author.Tests.{ltb-true, ltb-false}
 use Rattle.tree.specs.Limits.{most_nodes}
-use Rattle.joining.specs.Store.{rows_of, set_parent, SizedRows}
+use Rattle.joining.specs.declared.Arena.{Arena}
+use Rattle.joining.specs.Store.{rows_of, set_parent, SizedRows, SizedStore}
 use Rattle.joining.specs.Links.{SizedLinks}
-use Rattle.joining.specs.Buffers.{column, rows_in, links_in, Put}
+use Rattle.joining.specs.Buffers.{column, rows_in, links_in, Put, stored}
 
 module _ {A : Type 0} (k : ℕ) (l : List A) where
   -- a column has no more than most_nodes
@@ -81,6 +82,10 @@ sized_rows points path marks p q m =
 
 pub sized-links : (l : List ℕ) → length l ≡ 3 * most_nodes → SizedLinks most_nodes (links_in l)
 sized-links l e = record { last = column-size 0 l (omega arith); prev = column-size 1 l (omega arith); next = column-size 2 l (omega arith); few = omega arith }
+
+-- and of an arena
+pub sized_store : (a : Arena) → length a.nodes.points ≡ 2 * most_nodes → length a.nodes.path ≡ most_nodes → length a.nodes.marks ≡ 3 * most_nodes → length a.links ≡ 3 * most_nodes → SizedStore most_nodes (stored a)
+sized_store a p q m l = record { rows = sized_rows a.nodes.points a.nodes.path a.nodes.marks p q m; links = sized-links a.links l }
 
 -- a column that lies within the first n
 front : {A : Type 0} (j n : ℕ) (l z : List A) → j * most_nodes + most_nodes ≤ n → n ≤ length l → column j (take n l ++ z) ≡ column j l

@@ -63,11 +63,11 @@ module _ (t : Tree) (f : WellFormed t) (k : Counts) (c : Store) (s : Stores t k 
 
   -- a terminal below p, with a path of length l
   module _ (room : k.nodes < m) (p : ℕ) (h : p < length t.nodes) (q : Point) (l l' : ℕ) (el : l ≡ l') (c' : Store)
-      (o : RowAttached c k.nodes (terminal_row p q l k.terminal.0) c') where
+      (o : RowAttached c k.nodes (terminal_row p q l k.terminal) c') where
     abbrev new : Node
     new = new_node (terminal t.next_terminal) p q [] l'
 
-    new_is : node_from (terminal_row p q l k.terminal.0) [] ≡ new
+    new_is : node_from (terminal_row p q l k.terminal) [] ≡ new
     new_is =
         λ i. record {
           name = terminal (sym s.terminal i);
@@ -80,10 +80,10 @@ module _ (t : Tree) (f : WellFormed t) (k : Counts) (c : Store) (s : Stores t k 
         }
 
     pub stores-terminal : Stores (grown t (terminal t.next_terminal) (attach ns p new)) (one_more k) c'
-    stores-terminal = stores-attach room p h new _ c' o.rows o.links new_is (one_more k) (record { nodes = refl; steiner = refl; terminal = omega arith })
+    stores-terminal = stores-attach room p h new (terminal_row p q l k.terminal) c' o.rows o.links new_is (one_more k) (record { nodes = refl; steiner = refl; terminal = omega arith })
 
     pub sized-terminal : SizedStore m c'
-    sized-terminal = sized-attach_in room p h new _ c' o.rows o.links new_is
+    sized-terminal = sized-attach_in room p h new (terminal_row p q l k.terminal) c' o.rows o.links new_is
 
   -- the path at p, and d from it
   pub path_below_lem : (p : ℕ) → p < length t.nodes → (q : Point) → path_below (view_in c.rows p) q ≡ (node_at t.nodes p).path + dist (node_at t.nodes p).point q

@@ -1,16 +1,44 @@
--- The name that a row's kind and number say, kind by kind.
-use Prim.Native.Nat.{ℕ, zero, suc}
-use mathlib.Core.Path.{◌≡◌, refl, ap, sym}
-use Rattle.tree.specs.Tree.{source, steiner, terminal}
-use Rattle.joining.specs.Store.{name_from}
+-- A name by its kind and number, and an index by the number for it in a column.
+use Prim.Native.Nat.{ℕ, ◌<◌}
+use mathlib.Core.Path.{◌≡◌, refl, sym}
+use mathlib.Core.Bool.{Bool, true, false, cond}
+use native.Mathlib.Omega.{arith}
+use lib.Dec.{eqb}
+use borrow.Author.Tests.{ne_eqb, eqb-true}
+use Rattle.std.specs.Prelude.{None, Some}
+use Rattle.tree.specs.Limits.{no_node}
+use Rattle.tree.specs.Tree.{none, at}
+use Rattle.tree.specs.Measures.{kind_of, number_of}
+use Rattle.tree.specs.Memory.{name_in, parent_in, named, type_of}
+use Rattle.tree.specs.declared.NodeIndex.{NodeIndex}
+use Rattle.tree.specs.declared.NodeName.{NodeName}
+use Rattle.tree.specs.declared.NodeName.TheVariants.{Source, Steiner, Terminal}
+use Rattle.search.specs.Walk.{node_index}
+use Rattle.joining.specs.Store.{parent_from, index_from, link_in}
 
-pub name-source : (k n : ℕ) → k ≡ 0 → source ≡ name_from k n
-name-source k n e = ap (λ (j : ℕ). name_from j n) (sym e)
+-- a name is that of its kind and number
+pub named-again : (n : NodeName) → named (type_of (kind_of (name_in n))) (number_of (name_in n)) ≡ n
+named-again Source = refl
+named-again (Steiner k) = refl
+named-again (Terminal k) = refl
 
-pub name-steiner : (k n : ℕ) → k ≡ 1 → steiner n ≡ name_from k n
-name-steiner k n e = ap (λ (j : ℕ). name_from j n) (sym e)
+-- the parent that a column's number names
+pub parent_in-from : (p : ℕ) → parent_in (index_from p) ≡ parent_from p
+unfolding parent_from
+parent_in-from p = by (eqb p no_node)
+  where
+    by : (t : Bool) → parent_in (cond t None (Some (node_index p))) ≡ cond t none (at p)
+    by true = refl
+    by false = refl
 
-pub name-terminal : (k n : ℕ) → (k ≡ 0 → ⊥) → (k ≡ 1 → ⊥) → terminal n ≡ name_from k n
-name-terminal zero n f g = absurd (f refl)
-name-terminal (suc zero) n f g = absurd (g refl)
-name-terminal (suc (suc k)) n f g = refl
+-- the number of what a column's number names
+pub link_in-from : (p : ℕ) → link_in (index_from p) ≡ p
+link_in-from p = by (eqb p no_node) refl
+  where
+    by : (t : Bool) → eqb p no_node ≡ t → link_in (cond t None (Some (node_index p))) ≡ p
+    by true e = sym (eqb-true p no_node e)
+    by false e = refl
+
+-- and of an index that is no no_node
+pub index_from-node : (i : NodeIndex) → i.0 < no_node → index_from i.0 ≡ Some i
+index_from-node i h = rw (ne_eqb i.0 no_node (λ e. omega arith))

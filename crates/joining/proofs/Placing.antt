@@ -98,14 +98,14 @@ module _ {q : Point} {k : Counts} {c : Store} (p : ℕ) (v : Standing (At (Onto 
   pub reads-onto : ReadsIn c.rows p
   reads-onto = read v p v.stands.when
 
-  module _ (row : Row) (er : row ≡ terminal_row p q (path_below (view_in c.rows p) q) k.terminal.0) where
+  module _ (row : Row) (er : row ≡ terminal_row p q (path_below (view_in c.rows p) q) k.terminal) where
     pub may_onto : Attachable c k.nodes row.parent.0
     may_onto = subst (λ (x : Row). Attachable c k.nodes x.parent.0) (sym er) (may_attach v (omega arith) p v.stands.when)
 
     pub did_onto : (c' : Store) → RowAttached c k.nodes row c' → (r : Counts) → r ≡ one_more k → Joined (Onto (node_index p)) q k c r c'
     unfolding joined
     did_onto c' o₀ r ek =
-        let o : RowAttached c k.nodes (terminal_row p q (path_below (view_in c.rows p) q) k.terminal.0) c' = subst (λ (x : Row). RowAttached c k.nodes x c') er o₀ in
+        let o : RowAttached c k.nodes (terminal_row p q (path_below (view_in c.rows p) q) k.terminal) c' = subst (λ (x : Row). RowAttached c k.nodes x c') er o₀ in
         subst (λ (x : Counts). Joined (Onto (node_index p)) q k c x c') (sym ek)
         (record {
           stores = λ t f h s. stores-terminal t f k c s _ v.stands.sized (omega (arith, v.room)) p h q _ _ (path_below_lem t f k c s _ v.stands.sized p h q) c' o;

@@ -13,6 +13,8 @@ use borrow.Author.Tests.{ne_eqb}
 use Rattle.tree.specs.Limits.{no_node}
 use Rattle.tree.specs.Tree.{Node, at, node_at}
 use Rattle.tree.specs.Shape.{count}
+use Rattle.tree.specs.Memory.{named, type_of, name_in}
+use Rattle.tree.specs.Measures.{kind_of, number_of}
 use Rattle.search.specs.Walk.{node_index}
 use Rattle.search.specs.Columns.{Has, Distinct, Chain, chain}
 use Rattle.joining.specs.declared.Row.{Row}
@@ -20,6 +22,7 @@ use Rattle.joining.specs.Links.{BackedBy, Links, links, SizedLinks, Attached, De
 use Rattle.joining.specs.Store.{Rows, Store, columns_of, Keeps, Backs, row_at, set_row, set_parent, SizedRows, node_from, parent_from}
 use Rattle.joining.proofs.Lists.{Held, Apart, attach_own, attach_other}
 use Rattle.joining.proofs.Agree.{has-count, count-reverse}
+use Rattle.joining.proofs.Names.{named-again}
 
 -- ---- rows
 pub row_same : (m : ℕ) (r : Rows) (i : ℕ) (n : Row) → SizedRows m r → i < m → row_at (set_row r i n) i ≡ n
@@ -28,8 +31,7 @@ row_same m r i n z h =
       point = record { xcoord = get_or-set_same r.xs i n.point.xcoord (pos 0) (omega (arith, z.xs)) k; ycoord = get_or-set_same r.ys i n.point.ycoord (pos 0) (omega (arith, z.ys)) k };
       path = get_or-set_same r.path i n.path 0 (omega (arith, z.path)) k;
       parent = node_index (get_or-set_same r.parent i n.parent.0 0 (omega (arith, z.parent)) k);
-      kind = get_or-set_same r.kind i n.kind 0 (omega (arith, z.kind)) k;
-      number = get_or-set_same r.number i n.number 0 (omega (arith, z.number)) k;
+      name = ((λ x. named (type_of (get_or-set_same r.kind i (kind_of (name_in n.name)) 0 (omega (arith, z.kind)) x)) (get_or-set_same r.number i (number_of (name_in n.name)) 0 (omega (arith, z.number)) x)) ∙ named-again n.name) k;
     }
 
 pub row_other : (r : Rows) (i j : ℕ) (n : Row) → j ≢ i → row_at (set_row r i n) j ≡ row_at r j
@@ -38,12 +40,11 @@ row_other r i j n h =
       point = record { xcoord = get_or-set_other r.xs i j n.point.xcoord (pos 0) h k; ycoord = get_or-set_other r.ys i j n.point.ycoord (pos 0) h k };
       path = get_or-set_other r.path i j n.path 0 h k;
       parent = node_index (get_or-set_other r.parent i j n.parent.0 0 h k);
-      kind = get_or-set_other r.kind i j n.kind 0 h k;
-      number = get_or-set_other r.number i j n.number 0 h k;
+      name = named (type_of (get_or-set_other r.kind i j (kind_of (name_in n.name)) 0 h k)) (get_or-set_other r.number i j (number_of (name_in n.name)) 0 h k);
     }
 
 abbrev pub child_of : ℕ → Row → Row
-child_of p n = record { point = n.point; path = n.path; parent = node_index p; kind = n.kind; number = n.number }
+child_of p n = record { point = n.point; path = n.path; parent = node_index p; name = n.name }
 
 pub parent-same : (m : ℕ) (r : Rows) (i p : ℕ) → SizedRows m r → i < m → row_at (set_parent r i p) i ≡ child_of p (row_at r i)
 parent-same m r i p z h = ap (λ (x : ℕ). child_of x (row_at r i)) (get_or-set_same r.parent i p 0 (omega (arith, z.parent)))

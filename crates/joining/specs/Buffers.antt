@@ -1,10 +1,10 @@
--- A tree kept in four buffers, each of which holds columns of most_nodes numbers one after the other.
+-- A tree kept in an arena, each of whose buffers holds columns of most_nodes numbers one after the other.
 use Rattle.std.specs.Prelude.{ℕ, ◌*◌, ◌≡◌, List, take, drop, set, ℤ}
-use Rattle.std.specs.Borrow.{MutBor}
-use denote.Triple.Both.{Both}
 use Rattle.tree.specs.Limits.{most_nodes}
 use Rattle.search.specs.declared.NodeView.{NodeView}
 use Rattle.search.specs.Walk.{view_at}
+use Rattle.joining.specs.declared.NodeRows.{NodeRows}
+use Rattle.joining.specs.declared.Arena.{Arena}
 use Rattle.joining.specs.Links.{Links, links}
 use Rattle.joining.specs.Store.{Rows, rows_of, Store, store}
 use Rattle.joining.specs.Join.{Reads}
@@ -36,23 +36,9 @@ pub record Put {A : Type 0} (k i : ℕ) (v : A) (l l' : List A) : Type 0 where
   pub own : column k l' ≡ set (column k l) i v
   pub other : (j : ℕ) → (j ≡ k → ⊥) → column j l' ≡ column j l
 
--- ---- what stands in four buffers that a function may write: as they are, as it found them, and as it leaves them. Of buffers that are only read
--- a contract says `store_in points.now path.now marks.now links.now`.
-abbrev pub Lent : Type 0 → Type 0
-Lent A = Both (MutBor (List A)) (MutBor (List A))
+-- ---- an arena: its rows, and all that it holds of a tree but for the counts
+abbrev pub rows_held : NodeRows → Rows
+rows_held r = rows_in r.points r.path r.marks
 
-abbrev pub stored : MutBor (List ℤ) → MutBor (List ℕ) → MutBor (List ℕ) → MutBor (List ℕ) → Store
-stored points path marks links = store_in points.now path.now marks.now links.now
-
-abbrev pub before : Lent ℤ → Lent ℕ → Lent ℕ → Lent ℕ → Store
-before points path marks links = stored points.entry path.entry marks.entry links.entry
-
-abbrev pub after : Lent ℤ → Lent ℕ → Lent ℕ → Lent ℕ → Store
-after points path marks links = stored points.exit path.exit marks.exit links.exit
-
--- and their rows
-abbrev pub rows_before : Lent ℤ → Lent ℕ → Lent ℕ → Rows
-rows_before points path marks = rows_in points.entry.now path.entry.now marks.entry.now
-
-abbrev pub rows_after : Lent ℤ → Lent ℕ → Lent ℕ → Rows
-rows_after points path marks = rows_in points.exit.now path.exit.now marks.exit.now
+abbrev pub stored : Arena → Store
+stored a = store (rows_held a.nodes) (links_in a.links)

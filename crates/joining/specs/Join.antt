@@ -5,6 +5,8 @@ use Rattle.geometry.specs.Geometry.{dist}
 use Rattle.geometry.specs.Laws.{Within}
 use Rattle.tree.specs.Limits.{longest_path, no_node, reach}
 use Rattle.tree.specs.Search.{nearest_on}
+use Rattle.tree.specs.declared.NodeName.TheVariants.{Steiner, Terminal}
+use Rattle.tree.specs.declared.TerminalNumber.{TerminalNumber}
 use Rattle.search.specs.declared.NodeView.{NodeView}
 use Rattle.search.specs.Walk.{node_index, view_at}
 use Rattle.search.specs.Columns.{InReach}
@@ -15,8 +17,8 @@ use Rattle.joining.specs.Store.{Rows, Store, set_row, set_parent, SizedRows, Siz
 use Rattle.joining.specs.Links.{Appended, Spliced, Spliceable}
 
 -- the row of a terminal at q below p
-abbrev pub terminal_row : ℕ → Point → ℕ → ℕ → Row
-terminal_row p q path number = record { point = q; path = path; parent = node_index p; kind = 2; number = number }
+abbrev pub terminal_row : ℕ → Point → ℕ → TerminalNumber → Row
+terminal_row p q path number = record { point = q; path = path; parent = node_index p; name = Terminal number }
 
 -- "New path lengths are the parent's plus d"
 abbrev pub path_below : NodeView → Point → ℕ
@@ -26,8 +28,8 @@ path_below P q = P.path + dist P.point q
 abbrev pub split_rows : Counts → NodeView → NodeView → Point → SplitRows
 split_rows k P C q =
     record {
-      terminal = terminal_row (k.nodes + 1) q (path_below P (nearest_on P.point C.point q) + dist (nearest_on P.point C.point q) q) k.terminal.0;
-      steiner = record { point = nearest_on P.point C.point q; path = path_below P (nearest_on P.point C.point q); parent = P.node; kind = 1; number = k.steiner.0 };
+      terminal = terminal_row (k.nodes + 1) q (path_below P (nearest_on P.point C.point q) + dist (nearest_on P.point C.point q) q) k.terminal;
+      steiner = record { point = nearest_on P.point C.point q; path = path_below P (nearest_on P.point C.point q); parent = P.node; name = Steiner k.steiner };
     }
 
 -- the counts with one more terminal, and with a terminal and a Steiner node

@@ -1,4 +1,4 @@
--- A tree in four arrays: what it is that one stands there, and what a step does to it.
+-- A tree in an arena: what it is that one stands there, and what a step does to it.
 use Rattle.std.specs.Prelude.{ℕ, ◌+◌, ◌≤◌, ◌<◌, ◌≡◌, length}
 use Rattle.geometry.specs.declared.Point.{Point}
 use Rattle.geometry.specs.Laws.{Within}
@@ -9,7 +9,9 @@ use Rattle.tree.specs.WellFormed.{WellFormed, Fits}
 use Rattle.search.specs.declared.Join.{Join}
 use Rattle.search.specs.Find.{join_of}
 use Rattle.joining.specs.declared.Counts.{Counts}
+use Rattle.joining.specs.declared.Arena.{Arena}
 use Rattle.joining.specs.Store.{Store, columns_of, SizedStore, Keeps, Backs}
+use Rattle.joining.specs.Buffers.{stored}
 
 -- the columns hold the tree's nodes, and k counts them and gives the next numbers
 pub record Stores (t : Tree) (k : Counts) (c : Store) : Type 0 where
@@ -19,8 +21,8 @@ pub record Stores (t : Tree) (k : Counts) (c : Store) : Type 0 where
   pub keeps : Keeps t.nodes (columns_of c)
   pub backs : Backs t.nodes c.links.next
 
--- **a tree stands in the four arrays**: a well-formed tree for which When holds, whose nodes k counts. All that is lent a tree asks this, and says what
--- is special beside it
+-- **a tree stands in an arena**: a well-formed tree for which When holds, whose nodes k counts. All that is lent a tree asks this, and says what is
+-- special beside it
 pub record Stands (When : Tree → Type 0) (k : Counts) (c : Store) : Type 0 where
   pub tree : Tree
   pub formed : WellFormed tree
@@ -53,3 +55,10 @@ At j t = Fits t.nodes (join_of j)
 -- a terminal at q has joined at the place
 abbrev pub Joined : Join → Point → Counts → Store → Counts → Store → Type 0
 Joined j q = Grows (At j) (λ t. join t q (join_of j))
+
+-- ---- of an arena, as contracts say it: what holds in it, and what a step made of it
+abbrev pub Holding : (Counts → Store → Type 0) → Arena → Type 0
+Holding P a = P a.counts (stored a)
+
+abbrev pub Became : (Counts → Store → Counts → Store → Type 0) → Arena → Arena → Type 0
+Became R a b = R a.counts (stored a) b.counts (stored b)

@@ -1,8 +1,10 @@
 -- A tree kept in columns: rows of numbers, and columns of links. no_node stands for no node.
-use Rattle.std.specs.Prelude.{ℕ, zero, suc, ◌≤◌, ◌<◌, ◌≡◌, cond, List, [], ◌∷◌, ◌++◌, reverse, length, get_or, set, eqb, ℤ}
+use Rattle.std.specs.Prelude.{ℕ, zero, suc, ◌≤◌, ◌<◌, ◌≡◌, cond, List, [], ◌∷◌, ◌++◌, reverse, length, get_or, set, eqb, ℤ, Option, None, Some}
 use Rattle.tree.specs.Limits.{no_node}
-use Rattle.tree.specs.Memory.{point_at}
-use Rattle.tree.specs.Tree.{zero_figure, Node, Name, source, steiner, terminal, Parent, none, at, node_at}
+use Rattle.tree.specs.Memory.{point_at, type_of, named, name_in}
+use Rattle.tree.specs.Measures.{kind_of, number_of}
+use Rattle.tree.specs.declared.NodeIndex.{NodeIndex}
+use Rattle.tree.specs.Tree.{zero_figure, Node, Name, Parent, none, at, node_at}
 use Rattle.search.specs.Walk.{node_index}
 use Rattle.search.specs.Columns.{chain}
 use Rattle.joining.specs.declared.Row.{Row}
@@ -45,8 +47,7 @@ row_at r i =
       point = point_at r.xs r.ys i;
       path = get_or r.path i 0;
       parent = node_index (get_or r.parent i 0);
-      kind = get_or r.kind i 0;
-      number = get_or r.number i 0;
+      name = named (type_of (get_or r.kind i 0)) (get_or r.number i 0);
     }
 
 abbrev pub set_row : Rows → ℕ → Row → Rows
@@ -56,8 +57,8 @@ set_row r i n =
       ys = set r.ys i n.point.ycoord;
       path = set r.path i n.path;
       parent = set r.parent i n.parent.0;
-      kind = set r.kind i n.kind;
-      number = set r.number i n.number;
+      kind = set r.kind i (kind_of (name_in n.name));
+      number = set r.number i (number_of (name_in n.name));
     }
 
 abbrev pub set_parent : Rows → ℕ → ℕ → Rows
@@ -66,9 +67,15 @@ set_parent r i p = record { xs = r.xs; ys = r.ys; path = r.path; parent = set r.
 -- ---- the nodes that the columns stand for
 -- kind 0 is the source, 1 a Steiner node, 2 a terminal
 abbrev pub name_from : ℕ → ℕ → Name
-name_from zero k = source
-name_from (suc zero) k = steiner k
-name_from (suc (suc n)) k = terminal k
+name_from kind k = name_in (named (type_of kind) k)
+
+-- the node that a column's number names, and the number for it
+abbrev pub index_from : ℕ → Option NodeIndex
+index_from p = cond (eqb p no_node) None (Some (node_index p))
+
+abbrev pub link_in : Option NodeIndex → ℕ
+link_in None = no_node
+link_in (Some i) = i.0
 
 unfoldable pub parent_from : ℕ → Parent
 parent_from p = cond (eqb p no_node) none (at p)
@@ -79,7 +86,7 @@ ParentsIn ns parent = (i : ℕ) → i < length ns → (node_at ns i).parent ≡ 
 
 abbrev pub node_from : Row → List ℕ → Node
 node_from r cs =
-    record { name = name_from r.kind r.number; parent = parent_from r.parent.0; point = r.point; children = cs; path = r.path; capacitance = zero_figure; delay = zero_figure }
+    record { name = name_in r.name; parent = parent_from r.parent.0; point = r.point; children = cs; path = r.path; capacitance = zero_figure; delay = zero_figure }
 
 abbrev pub node_of : Columns → ℕ → Node
 node_of c i = node_from (row_at c.rows i) (reverse (chain c.prev (get_or c.last i 0)))

@@ -13,29 +13,24 @@ use geometry::{Interval, Point, Rectangle};
 
 // ---- shapes of numbers
 
-fn point(x: i32, y: i32) -> Point
-    ensures { result ≡ point_of x y }
+fn point(xcoord: i32, ycoord: i32) -> Point
+    ensures { result ≡ point_of xcoord ycoord }
 {
-    Point {
-        xcoord: x,
-        ycoord: y,
-    }
+    Point { xcoord, ycoord }
 }
 
 fn interval(lb: i32, ub: i32) -> Interval
     ensures { result ≡ interval_of lb ub }
 {
-    Interval { lb: lb, ub: ub }
+    Interval { lb, ub }
 }
 
 fn rectangle(xl: i32, xu: i32, yl: i32, yu: i32) -> Rectangle
     ensures { result ≡ rectangle_of xl xu yl yu }
 {
-    let x = Interval { lb: xl, ub: xu };
-    let y = Interval { lb: yl, ub: yu };
     Rectangle {
-        xcoord: x,
-        ycoord: y,
+        xcoord: interval(xl, xu),
+        ycoord: interval(yl, yu),
     }
 }
 
@@ -59,7 +54,7 @@ pub fn leaf_calls_point_min_dist_with(px: i32, py: i32, qx: i32, qy: i32) -> u64
     point(px, py).min_dist_with(point(qx, qy))
 }
 
-// The box of two points; its bounds one by one.
+// The box of two points. Its bounds go out one by one, in four calls: the C interface gives one number a call.
 fn hull_with(px: i32, py: i32, qx: i32, qy: i32) -> Rectangle
     ensures { result ≡ box (point_of px py) (point_of qx qy) }
 {
@@ -90,7 +85,7 @@ pub fn leaf_calls_hull_with_y_ub(px: i32, py: i32, qx: i32, qy: i32) -> i32
     hull_with(px, py, qx, qy).ycoord.ub
 }
 
-// The nearest point; its coordinates one by one.
+// The nearest point. Its coordinates go out one by one, as those bounds do.
 fn nearest_to(xl: i32, xu: i32, yl: i32, yu: i32, px: i32, py: i32) -> Point
     ensures { result ≡ nearest (rectangle_of xl xu yl yu) (point_of px py) }
 {

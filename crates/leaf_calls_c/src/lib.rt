@@ -1,4 +1,5 @@
-// The C calls of compare/: those of leaf_calls, under their names and clauses, as a static library.
+// The C calls of compare/: those of leaf_calls, under their names and clauses, as a static library. The C interface wants one function for
+// each number that is asked for, so those of a box and of a nearest point come in fours and twos.
 #![tactic(auto)]
 
 ghost use Rattle.std.specs.Prelude.{◌≡◌};

@@ -7,7 +7,9 @@ use lib.ListN.{length, get_or}
 use Rattle.wire.specs.Puts.{Puts, puts_as, puts_then}
 use Rattle.tree.specs.Tree.{Node, Parent, none, at, node_at}
 use Rattle.tree.specs.Measures.{kind_of, of_parent, path_down, path_to, those, of_kind}
-use Rattle.joining.specs.Store.{Columns}
+use Rattle.std.specs.Prelude.{Option}
+use Rattle.tree.specs.declared.NodeIndex.{NodeIndex}
+use Rattle.joining.specs.Store.{Columns, index_from}
 use Rattle.measures.proofs.Lent.{Read}
 use Rattle.measures.proofs.KindsOf.{is_kind, one_more, none_more}
 
@@ -53,5 +55,5 @@ module _ (ns : List Node) (n k : ℕ) (out₀ : List ℕ) (from : ℕ) where
     leaves_it f = record { low = omega arith; puts = puts_as v.puts (none_more ns k i r e f) }
 
 -- what is read at k, which is i
-pub read_at : (parent : List ℕ) {x k i : ℕ} → x ≡ get_or parent k 0 → k ≡ i → x ≡ get_or parent i 0
-read_at parent ex e = ex ∙ ap (λ (j : ℕ). get_or parent j 0) e
+pub read_at : (parent : List ℕ) {x : Option NodeIndex} {k i : ℕ} → x ≡ index_from (get_or parent k 0) → k ≡ i → x ≡ index_from (get_or parent i 0)
+read_at parent ex e = ex ∙ ap (λ (j : ℕ). index_from (get_or parent j 0)) e

@@ -1,23 +1,45 @@
 -- A node's kind as it is read, and the nodes of a kind one node further.
-use mathlib.Core.Path.{◌≡◌, ap, sym, ◌∙◌}
+use mathlib.Core.Path.{◌≡◌, refl, ap, sym, ◌∙◌}
 use mathlib.Core.Bool.{Bool}
 use mathlib.Core.List.{List, [], ◌∷◌, ◌++◌, append-nil}
-use Prim.Native.Nat.{ℕ, ◌+◌, ◌<◌}
+use Prim.Native.Nat.{ℕ, zero, suc, ◌+◌, ◌<◌}
 use native.Mathlib.Numerals.{add-one}
+use native.Mathlib.Omega.{arith}
 use lib.ListN.{get_or}
 use lib.Dec.{eqb}
 use borrow.Author.Tests.{eq-eqb, ne_eqb}
 use Rattle.tree.specs.Tree.{Node, node_at}
 use Rattle.tree.specs.Measures.{kind_of, those}
+use Rattle.tree.specs.Memory.{type_number, type_of}
+use Rattle.tree.specs.declared.NodeType.{NodeType}
+use Rattle.tree.specs.declared.NodeType.TheVariants as T
 use Rattle.joining.specs.Store.{Columns, name_from}
 use Rattle.measures.proofs.Lent.{Read}
 
+kind-named : (k n : ℕ) → type_number (type_of k) ≡ kind_of (name_from k n)
+kind-named zero n = refl
+kind-named (suc zero) n = refl
+kind-named (suc (suc k)) n = refl
+
 module _ {ns : List Node} {c : Columns} {n : ℕ} (v : Read ns c n) (i : ℕ) (h : i < n) where
-  -- x is the kind that is read, and r what `kind_of` makes of it
-  pub kind_read : {x r : ℕ} → x ≡ get_or c.rows.kind i 0 → ((k : ℕ) → r ≡ kind_of (name_from x k)) → r ≡ kind_of (node_at ns i).name
-  kind_read ex e =
-      let m = get_or c.rows.number i 0 in
-      e m ∙ ap (λ (y : ℕ). kind_of (name_from y m)) ex ∙ sym (ap (λ (y : Node). kind_of y.name) (v.rows i h))
+  -- the kind that is read at k, which is i
+  pub kind_read : {t : NodeType} {k : ℕ} → k ≡ i → t ≡ type_of (get_or c.rows.kind k 0) → type_number t ≡ kind_of (node_at ns i).name
+  kind_read ek e =
+      ap type_number (e ∙ ap (λ (j : ℕ). type_of (get_or c.rows.kind j 0)) ek)
+      ∙ kind-named (get_or c.rows.kind i 0) (get_or c.rows.number i 0)
+      ∙ sym (ap (λ (y : Node). kind_of y.name) (v.rows i h))
+
+-- kinds are told apart by their numbers
+pub same_kind : (a b : NodeType) → type_number a ≡ type_number b → a ≡ b
+same_kind T.Source T.Source e = refl
+same_kind T.Source T.Steiner e = absurd (omega arith)
+same_kind T.Source T.Terminal e = absurd (omega arith)
+same_kind T.Steiner T.Source e = absurd (omega arith)
+same_kind T.Steiner T.Steiner e = refl
+same_kind T.Steiner T.Terminal e = absurd (omega arith)
+same_kind T.Terminal T.Source e = absurd (omega arith)
+same_kind T.Terminal T.Steiner e = absurd (omega arith)
+same_kind T.Terminal T.Terminal e = refl
 
 -- whether node i is of a kind
 abbrev pub is_kind : ℕ → List Node → ℕ → Bool

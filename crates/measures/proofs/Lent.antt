@@ -4,18 +4,20 @@ use mathlib.Core.Path.{◌≡◌, ap, sym, subst, ◌∙◌}
 use mathlib.Core.List.{List, reverse}
 use native.Mathlib.Omega.{arith}
 use lib.ListN.{length, get_or}
-use borrow.Author.Tests.{eq-eqb, ne_eqb}
 use Rattle.geometry.specs.declared.Point.{Point}
 use Rattle.geometry.specs.Laws.{Within}
 use Rattle.tree.specs.Limits.{most_nodes, no_node, reach}
-use Rattle.tree.specs.Tree.{Node, Name, source, steiner, terminal, none, at, node_at}
+use Rattle.tree.specs.Tree.{Node, Name, source, steiner, terminal, node_at}
 use Rattle.tree.specs.Measures.{number_of}
 use Rattle.tree.specs.Shape as Shape
 use Rattle.tree.specs.Shape.{Given}
-use Rattle.tree.specs.Memory.{point_at}
+use Rattle.tree.specs.Memory.{point_at, parent_in}
 use Rattle.search.specs.Columns.{Has, chain, Chain, Chained}
 use Rattle.search.specs.Find.{examined}
-use Rattle.joining.specs.Store.{Columns, row_at, node_from, parent_from, nodes_of}
+use Rattle.std.specs.Prelude.{Option, Some}
+use Rattle.tree.specs.declared.NodeIndex.{NodeIndex}
+use Rattle.joining.specs.Store.{Columns, row_at, node_from, index_from, nodes_of}
+use Rattle.joining.proofs.Names.{parent_in-from}
 use Rattle.joining.proofs.Agree.{child_of_lem}
 use Rattle.joining.proofs.Reading.{children_are, nodes_are}
 use Rattle.tree.proofs.Linking.{child_in, parent_in_lem}
@@ -82,16 +84,13 @@ module _ {ns : List Node} {c : Columns} {n : ℕ} (v : Read ns c n) (i : ℕ) (h
   pub point_is : (node_at ns i).point ≡ point_at c.rows.xs c.rows.ys i
   point_is = ap (λ (x : Node). x.point) (v.rows i h)
 
-  pub parent-none : get_or c.rows.parent i 0 ≡ no_node → (node_at ns i).parent ≡ none
-  unfolding parent_from
-  parent-none e = ap (λ (x : Node). x.parent) (v.rows i h) ∙ rw (eq-eqb (get_or c.rows.parent i 0) no_node e)
+  -- the parent that is read
+  module _ {p : Option NodeIndex} (e : p ≡ index_from (get_or c.rows.parent i 0)) where
+    pub parent_is : (node_at ns i).parent ≡ parent_in p
+    parent_is = ap (λ (x : Node). x.parent) (v.rows i h) ∙ sym (parent_in-from (get_or c.rows.parent i 0)) ∙ ap parent_in (sym e)
 
-  pub parent-some : (get_or c.rows.parent i 0 ≡ no_node → ⊥) → (node_at ns i).parent ≡ at (get_or c.rows.parent i 0)
-  unfolding parent_from
-  parent-some f = ap (λ (x : Node). x.parent) (v.rows i h) ∙ rw (ne_eqb (get_or c.rows.parent i 0) no_node f)
-
-  pub parent-low : (get_or c.rows.parent i 0 ≡ no_node → ⊥) → get_or c.rows.parent i 0 < n
-  parent-low f = omega (arith, v.size, parent_in_lem v.linked i (get_or c.rows.parent i 0) (parent-some f))
+    pub parent_low : {q : NodeIndex} → p ≡ Some q → q.0 < n
+    parent_low {q} f = omega (arith, v.size, parent_in_lem v.linked i q.0 (parent_is ∙ ap parent_in f))
 
   -- the point that is read at k, which is i
   pub point_read : {p : Point} (k : ℕ) → k ≡ i → p ≡ point_at c.rows.xs c.rows.ys k → p ≡ (node_at ns i).point

@@ -1,4 +1,5 @@
 pub mod Lent
+pub mod Children
 pub mod Levels
 pub mod Summed
 pub mod Longest

@@ -1,21 +1,29 @@
 -- The loop over a node's children, from the last to the first: the longest run so far and the longest of those that are left make the longest of all.
 use Prim.Native.Nat.{ℕ, zero, suc, ◌+◌, ◌-◌, ◌*◌, ◌≤◌, ◌<◌, max}
-use mathlib.Core.Path.{◌≡◌, refl, ap, sym, subst, ◌∙◌}
-use mathlib.Core.Logic.{inl, inr}
+use mathlib.Core.Path.{◌≡◌, refl, ap, sym, ◌∙◌}
 use mathlib.Core.List.{List, [], ◌∷◌, ◌++◌, reverse, reverse-cons}
 use native.Mathlib.Omega.{arith}
 use lib.ListN.{length, get_or}
 use Rattle.geometry.specs.declared.Point.{Point}
 use Rattle.geometry.specs.Geometry.{dist}
-use Rattle.tree.specs.Limits.{across, no_node}
+use Rattle.geometry.specs.Laws.{Within}
+use Rattle.tree.specs.Limits.{across, reach}
 use Rattle.tree.specs.Tree.{Node, node_at}
 use Rattle.tree.specs.Measures.{greatest, worst_below, worst}
-use Rattle.search.specs.Columns.{Has, chain, Chained}
-use Rattle.search.proofs.Chains.{Unrolled, unroll, ended}
-use Rattle.joining.specs.Store.{Columns}
+use Rattle.std.specs.Prelude.{Option, None, Some}
+use Rattle.std.specs.Ordering.{ord_max, nat_cmp}
+use Rattle.std.proofs.lemmas.Bool.Decides.{nat_tests}
+use Rattle.tree.specs.declared.NodeIndex.{NodeIndex}
+use Rattle.joining.specs.Store.{Columns, index_from}
+use Rattle.measures.specs.Children.{chain_at, Siblings}
+use Rattle.measures.proofs.Children.{siblings_of, children_read, chain-none, child_low, siblings_before, chain_step}
 use Rattle.tree.specs.Memory.{point_at}
 use Rattle.measures.proofs.Lent.{Read, point_read, near_read}
 use Rattle.measures.proofs.Summed.{near_by}
+
+-- the library's `max`
+pub max_is : (a b : ℕ) → ord_max nat_cmp a b ≡ max a b
+max_is a b = grind (arith, nat_tests)
 
 greatest_snoc : (f : ℕ → ℕ) (xs : List ℕ) (c : ℕ) → greatest f (xs ++ (c ∷ [])) ≡ max (greatest f xs) (f c)
 unfolding greatest
@@ -41,69 +49,55 @@ unfolding worst_below
 worst-none ns zero i e = refl
 worst-none ns (suc left) i e = absurd (omega arith)
 
-pub record Longest (ns : List Node) (prev : List ℕ) (n left i c best : ℕ) : Type 0 where
+pub record Longest (ns : List Node) (prev : List ℕ) (n left i : ℕ) (child : Option NodeIndex) (best : ℕ) : Type 0 where
   pub some : left ≡ 0 → ⊥
   pub small : best ≤ across * left
-  pub links : Chained prev c
-  pub below : (x : ℕ) → Has x (chain prev c) → x < n
-  pub is : max best (greatest (run_by ns left i) (chain prev c)) ≡ worst_below ns left i
+  pub siblings : Siblings prev n child
+  pub is : max best (greatest (run_by ns left i) (chain_at prev child)) ≡ worst_below ns left i
 
 module _ (ns : List Node) (c : Columns) (n left i : ℕ) (v : Read ns c n) where
-  pub starts : (k x : ℕ) → k ≡ i → x ≡ get_or c.last k 0 → i < n → (left ≡ 0 → ⊥) → Longest ns c.prev n left i x 0
-  starts k x e ex h f =
-      rw (ex, e)
-      (record {
+  pub starts : {k : ℕ} {child : Option NodeIndex} → k ≡ i → child ≡ index_from (get_or c.last k 0) → i < n → (left ≡ 0 → ⊥) → Longest ns c.prev n left i child 0
+  starts {k} e ex h f =
+      let in_n : k < n = omega arith in
+      let kids = children_read v k in_n ex ∙ ap (λ (x : ℕ). reverse (node_at ns x).children) e in
+      record {
         some = f;
         small = omega arith;
-        links = v.links i h;
-        below = λ x m. v.below i x h m;
-        is =
-            omega (arith, ap (greatest (run_by ns left i)) (v.kids i h), greatest-reverse (run_by ns left i) (node_at ns i).children, worst_step ns left i f);
-      })
+        siblings = siblings_of v k in_n ex;
+        is = omega (arith, ap (greatest (run_by ns left i)) kids, greatest-reverse (run_by ns left i) (node_at ns i).children, worst_step ns left i f);
+      }
 
-  module _ {x best : ℕ} (l : Longest ns c.prev n left i x best) where
-    pub stops : x ≡ no_node → best ≡ worst_below ns left i
+  module _ {child : Option NodeIndex} {best : ℕ} (l : Longest ns c.prev n left i child best) where
+    pub stops : child ≡ None → best ≡ worst_below ns left i
     unfolding greatest
-    stops e = omega (arith, l.is, ap (greatest (run_by ns left i)) (ended c.prev x v.ends e))
+    stops e = omega (arith, l.is, ap (greatest (run_by ns left i)) (chain-none v l.siblings e))
 
-    module _ (more : x ≡ no_node → ⊥) where
-      rest : Unrolled c.prev x
-      rest = unroll c.prev x v.ends l.links more
+    -- at the child x, which is read at k: the run from p by q, and on
+    module _ {x : NodeIndex} (more : child ≡ Some x) {k : ℕ} (e : k ≡ x.0) where
+      here : x.0 < n
+      here = child_low v l.siblings more
 
-      pub here : x < n
-      unfolding Has
-      here = l.below x (subst (Has x) (sym rest.is) (inl refl))
+      pub child_near : {q : Point} → q ≡ point_at c.rows.xs c.rows.ys k → Within reach q
+      child_near eq = near_read v x.0 here k e eq
 
-      -- y is the child before
-      pub shorter : (k y : ℕ) → k ≡ x → y ≡ get_or c.prev k 0 → length (chain c.prev y) < length (chain c.prev x)
-      shorter k y e ey = rw (ey, e) (omega (arith, ap length rest.is))
-
-      turn : (k y run best' : ℕ) → k ≡ x → y ≡ get_or c.prev k 0 → run ≡ run_by ns left i x → run ≤ across * left → best' ≡ max best run → Longest ns c.prev n left i y best'
-      unfolding Has greatest
-      turn k y run best' e ey r s b =
-          rw (ey, e)
-          (record {
-            some = l.some;
-            small = omega (arith, l.small);
-            links = rest.after;
-            below = λ y m. l.below y (subst (Has y) (sym rest.is) (inr m));
-            is = omega (arith, l.is, ap (greatest (run_by ns left i)) rest.is);
-          })
-
-      -- the run that is read: from p by q, and on
-      module _ {p q : Point} {d b k : ℕ} (in_n : i < n) (ep : p ≡ point_at c.rows.xs c.rows.ys i) (e : k ≡ x) (eq : q ≡ point_at c.rows.xs c.rows.ys k)
-          (ed : d ≡ dist p q) (eb : b ≡ worst_below ns (left - 1) x) (sb : b ≤ across * (left - 1)) where
+      module _ {p q : Point} {d b : ℕ} (in_n : i < n) (ep : p ≡ point_at c.rows.xs c.rows.ys i) (eq : q ≡ point_at c.rows.xs c.rows.ys k)
+          (ed : d ≡ dist p q) (eb : b ≡ worst_below ns (left - 1) x.0) (sb : b ≤ across * (left - 1)) where
         pub run_low : d + b ≤ across * left
-        run_low = let z = l.some in omega (arith, near_by (near_read v i in_n i refl ep) (near_read v x here k e eq) ed)
+        run_low = let z = l.some in omega (arith, near_by (near_read v i in_n i refl ep) (child_near eq) ed)
 
-        run_is : d + b ≡ run_by ns left i x
-        run_is = λ j. (ed ∙ (λ m. dist (point_read v i in_n i refl ep m) (point_read v x here k e eq m))) j + eb j
+        run_is : d + b ≡ run_by ns left i x.0
+        run_is = λ j. (ed ∙ (λ m. dist (point_read v i in_n i refl ep m) (point_read v x.0 here k e eq m))) j + eb j
 
-        pub raised : (y : ℕ) → y ≡ get_or c.prev k 0 → best < d + b → Longest ns c.prev n left i y (d + b)
-        raised y ey h = turn k y (d + b) (d + b) e ey run_is run_low (omega arith)
-
-        pub kept : (y : ℕ) → y ≡ get_or c.prev k 0 → d + b ≤ best → Longest ns c.prev n left i y best
-        kept y ey h = turn k y (d + b) best e ey run_is run_low (omega arith)
+        -- and the sibling before
+        pub raised : {before : Option NodeIndex} {best' : ℕ} → before ≡ index_from (get_or c.prev k 0) → best' ≡ max best (d + b) → Longest ns c.prev n left i before best'
+        unfolding greatest
+        raised ey eb' =
+            record {
+              some = l.some;
+              small = omega (arith, l.small, run_low);
+              siblings = siblings_before v l.siblings more k e ey;
+              is = omega (arith, l.is, run_is, ap (greatest (run_by ns left i)) (chain_step v l.siblings more k e ey));
+            }
 
 -- the levels of a whole tree
 pub from_source : {ns : List Node} {c : Columns} {n : ℕ} → Read ns c n → {r : ℕ} → r ≡ worst_below ns n 0 → r ≡ worst ns

@@ -8,28 +8,33 @@ use lib.ListN.{length, get_or}
 use Rattle.geometry.specs.declared.Point.{Point}
 use Rattle.geometry.specs.Geometry.{dist}
 use Rattle.geometry.specs.Laws.{Within, dist-small}
-use Rattle.tree.specs.Limits.{across, no_node, reach}
+use Rattle.tree.specs.Limits.{across, reach}
 use Rattle.tree.specs.Tree.{Node, node_at, sum_to, to_parent, edge, total}
 use Rattle.tree.specs.Memory.{point_at}
-use Rattle.joining.specs.Store.{Columns}
-use Rattle.measures.proofs.Lent.{Read, parent-none, parent-some, parent-low, point_read, near_read}
+use Rattle.std.specs.Prelude.{None, Some}
+use Rattle.tree.specs.declared.NodeIndex.{NodeIndex}
+use Rattle.joining.specs.Store.{Columns, index_from}
+use Rattle.measures.proofs.Lent.{Read, parent_is, parent_low, point_read, near_read}
 
 pub near_by : {p q : Point} {d : ℕ} → Within reach p → Within reach q → d ≡ dist p q → d ≤ across
 near_by {p} {q} {d} a b e = omega (arith, dist-small {M = reach} a b)
 
 module _ {ns : List Node} {c : Columns} {n : ℕ} (v : Read ns c n) (i : ℕ) (h : i < n) where
-  pub edge_none : get_or c.rows.parent i 0 ≡ no_node → 0 ≡ edge ns i
-  edge_none e = sym (ap (to_parent ns (node_at ns i).point) (parent-none v i h e))
+  pub edge_none : None ≡ index_from (get_or c.rows.parent i 0) → 0 ≡ edge ns i
+  edge_none e = sym (ap (to_parent ns (node_at ns i).point) (parent_is v i h e))
 
-  module _ (f : get_or c.rows.parent i 0 ≡ no_node → ⊥) where
-    pub edge-some : {a b : Point} {d : ℕ} (k : ℕ) → k ≡ get_or c.rows.parent i 0 → a ≡ point_at c.rows.xs c.rows.ys k → b ≡ point_at c.rows.xs c.rows.ys i → d ≡ dist a b
-        → (d ≡ edge ns i) × (d ≤ across)
-    edge-some {a} {b} {d} k e ea eb ed =
-        let l = parent-low v i h f in (
-          ed ∙ (λ j. dist (point_read v (get_or c.rows.parent i 0) l k e ea j) (point_read v i h i refl eb j))
-              ∙ sym (ap (to_parent ns (node_at ns i).point) (parent-some v i h f)),
-          near_by (near_read v (get_or c.rows.parent i 0) l k e ea) (near_read v i h i refl eb) ed,
-        )
+  -- from i to its parent q, which is read at k
+  module _ {q : NodeIndex} (e : Some q ≡ index_from (get_or c.rows.parent i 0)) {k : ℕ} (ek : k ≡ q.0) where
+    pub parent_near : {a : Point} → a ≡ point_at c.rows.xs c.rows.ys k → Within reach a
+    parent_near ea = near_read v q.0 (parent_low v i h e refl) k ek ea
+
+    pub edge-some : {a b : Point} {d : ℕ} → a ≡ point_at c.rows.xs c.rows.ys k → b ≡ point_at c.rows.xs c.rows.ys i → d ≡ dist a b → (d ≡ edge ns i) × (d ≤ across)
+    edge-some ea eb ed = (
+      ed
+          ∙ (λ j. dist (point_read v q.0 (parent_low v i h e refl) k ek ea j) (point_read v i h i refl eb j))
+          ∙ sym (ap (to_parent ns (node_at ns i).point) (parent_is v i h e)),
+      near_by (parent_near ea) (near_read v i h i refl eb) ed,
+    )
 
 pub record Summed (ns : List Node) (n i sum : ℕ) : Type 0 where
   pub low : i ≤ n

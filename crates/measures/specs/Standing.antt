@@ -1,17 +1,12 @@
--- A tree that is lent as four buffers. Every function that reads a tree asks for `Lends` and answers about `nodes_of`: `nodes_are` in the crate
+-- A tree in an arena that is lent to be read. Every function that reads one asks for `Lends` and answers about `nodes_in`: `nodes_are` in the crate
 -- joining, proofs/Reading.antt, says that these are the nodes of whatever well-formed tree stands there.
-use Rattle.std.specs.Prelude.{ℕ, ◌+◌, ◌≤◌, ◌≡◌, List, length, ℤ}
-use Rattle.std.specs.Borrow.{Bor}
-use denote.Triple.Both.{Both}
+use Rattle.std.specs.Prelude.{ℕ, ◌+◌, ◌≤◌, ◌≡◌, List, length}
 use Rattle.tree.specs.Limits.{most_nodes}
 use Rattle.tree.specs.Tree.{Node, Tree}
 use Rattle.tree.specs.WellFormed.{WellFormed}
+use Rattle.joining.specs.declared.Arena.{Arena}
 use Rattle.joining.specs.Store.{Columns, columns_of, nodes_of, Sized, Keeps}
-use Rattle.joining.specs.Buffers.{store_in}
-
--- what is read of a tree in four buffers
-abbrev pub lent : List ℤ → List ℕ → List ℕ → List ℕ → Columns
-lent points path marks links = columns_of (store_in points path marks links)
+use Rattle.joining.specs.Buffers.{stored}
 
 -- a well-formed tree of n nodes stands in what a reader looks at: all but the links after
 pub record Held (n : ℕ) (c : Columns) : Type 0 where
@@ -25,9 +20,12 @@ pub record Held (n : ℕ) (c : Columns) : Type 0 where
   pub sized : Sized (length c.rows.xs) c
   pub room : n ≤ length c.rows.xs
 
--- ---- for contracts: a tree of n nodes stands in the buffers that are lent, and its nodes
-abbrev pub Lends : Bor (List ℤ) → Bor (List ℕ) → Bor (List ℕ) → Bor (List ℕ) → ℕ → Type 0
-Lends points path marks links n = Held n (lent points.now path.now marks.now links.now)
+-- ---- for contracts: what is read of a tree in an arena, that one stands there, and its nodes
+abbrev pub lent : Arena → Columns
+lent a = columns_of (stored a)
 
-abbrev pub nodes_in : Both (Bor (List ℤ)) (Bor (List ℤ)) → Both (Bor (List ℕ)) (Bor (List ℕ)) → Both (Bor (List ℕ)) (Bor (List ℕ)) → Both (Bor (List ℕ)) (Bor (List ℕ)) → ℕ → List Node
-nodes_in points path marks links n = nodes_of (lent points.entry.now path.entry.now marks.entry.now links.entry.now) n
+abbrev pub Lends : Arena → Type 0
+Lends a = Held a.counts.nodes (lent a)
+
+abbrev pub nodes_in : Arena → List Node
+nodes_in a = nodes_of (lent a) a.counts.nodes

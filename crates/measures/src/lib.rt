@@ -1,57 +1,39 @@
-// The measures of a tree that is lent as four buffers: the total and the worst wirelength. And a node's kind.
+// The measures of a tree in an arena: the total and the worst wirelength.
 #![tactic(auto)]
 
 ghost use Rattle.std.specs.Prelude.{◌≡◌, ℕ, ◌*◌, ◌<◌, ◌≤◌};
 ghost use Rattle.tree.specs.Limits.{across, most_nodes};
 ghost use Rattle.tree.specs.Tree.{total, edge};
-ghost use Rattle.tree.specs.Measures.{worst, worst_below, kind_of};
-ghost use Rattle.joining.specs.Store.{name_from};
+ghost use Rattle.tree.specs.Measures.{worst, worst_below};
 ghost use Rattle.measures.specs.Standing.{Lends, nodes_in};
 
+use joining::Arena;
 use tree::NodeIndex;
 
 // ---- the total
 
 // From node i to its parent; 0 for the source.
-fn edge<'a>(
-    points: &'a [i32; joining::POINTS],
-    path: &'a [u32; tree::MOST_NODES],
-    marks: &'a [u16; joining::MARKS],
-    links: &'a [u16; joining::LINKS],
-    n: usize,
-    i: usize,
-) -> u32
-    requires lends { Lends points path marks links n }
-    requires i_lt_n { i < n }
-    ensures { (result ≡ edge (nodes_in points path marks links n) i) × (result ≤ across) }
+fn edge(arena: &Arena, i: usize) -> u32
+    requires lends { Lends arena.now }
+    requires i_lt_n { i < arena.now.counts.nodes }
+    ensures { (result ≡ edge (nodes_in arena.now) i) × (result ≤ across) }
 {
-    let p = joining::parent_at(marks, i);
-    if p == tree::NO_NODE {
+    let Some(p) = arena.nodes.parent_at(i) else {
         return 0;
-    }
-    let k = search::wide(p);
-    let a = joining::point_at(points, k);
-    let b = joining::point_at(points, i);
+    };
+    let a = arena.nodes.point_at(usize::from(p));
+    let b = arena.nodes.point_at(i);
     search::distance(a, b)
 }
 
 // d to the parent, summed over nodes.
-pub fn total_wirelength<'a>(
-    points: &'a [i32; joining::POINTS],
-    path: &'a [u32; tree::MOST_NODES],
-    marks: &'a [u16; joining::MARKS],
-    links: &'a [u16; joining::LINKS],
-    n: usize,
-) -> u32
-    requires { Lends points path marks links n }
-    ensures { (result ≡ total (nodes_in points path marks links n)) × (result ≤ across * n) }
+pub fn total_wirelength(arena: &Arena) -> u32
+    requires { Lends arena.now }
+    ensures { (result ≡ total (nodes_in arena.now)) × (result ≤ across * arena.now.counts.nodes) }
 {
-    let mut sum: u32 = 0;
-    let mut i: usize = 0;
-    while i < n {
-        let d = edge(points, path, marks, links, n, i);
-        sum = sum + d;
-        i = i + 1;
+    let mut sum = 0;
+    for i in 0..usize::from(arena.counts.nodes) {
+        sum += edge(arena, i);
     }
     sum
 }
@@ -59,64 +41,59 @@ pub fn total_wirelength<'a>(
 // ---- the worst
 
 // The longest sum from a node down to any leaf, over at most `left` levels.
-fn worst_below<'a>(
-    points: &'a [i32; joining::POINTS],
-    path: &'a [u32; tree::MOST_NODES],
-    marks: &'a [u16; joining::MARKS],
-    links: &'a [u16; joining::LINKS],
-    n: usize,
-    node: NodeIndex,
-    left: usize,
-) -> u32
-    requires lends { Lends points path marks links n }
-    requires node_lt_n { (node.0 < n) × (left ≤ most_nodes) }
-    ensures { (result ≡ worst_below (nodes_in points path marks links n) left node.0) × (result ≤ across * left) }
+fn worst_below(arena: &Arena, node: NodeIndex, left: usize) -> u32
+    requires lends { Lends arena.now }
+    requires node_lt_n { (node.0 < arena.now.counts.nodes) × (left ≤ most_nodes) }
+    ensures { (result ≡ worst_below (nodes_in arena.now) left node.0) × (result ≤ across * left) }
 {
     if left == 0 {
         return 0;
     }
-    let i = search::wide(node.0);
-    let p = joining::point_at(points, i);
-    let mut longest: u32 = 0;
-    let mut c = joining::last_child(links, i);
-    while c != tree::NO_NODE {
-        let k = search::wide(c);
-        let q = joining::point_at(points, k);
-        let below = worst_below(points, path, marks, links, n, NodeIndex(c), left - 1);
+    let i = usize::from(node);
+    let p = arena.nodes.point_at(i);
+    let mut longest = 0;
+    let mut child = joining::last_child(&arena.links, i);
+    while let Some(c) = child {
+        let k = usize::from(c);
+        let q = arena.nodes.point_at(k);
+        let below = worst_below(arena, c, left - 1);
         let run = search::distance(p, q) + below;
-        if longest < run {
-            longest = run;
-        }
-        c = joining::child_before(links, k);
+        longest = longest.max(run);
+        child = joining::child_before(&arena.links, k);
     }
     longest
 }
 
 // The longest sum from source to any leaf.
-pub fn worst_wirelength<'a>(
-    points: &'a [i32; joining::POINTS],
-    path: &'a [u32; tree::MOST_NODES],
-    marks: &'a [u16; joining::MARKS],
-    links: &'a [u16; joining::LINKS],
-    n: usize,
-) -> u32
-    requires { Lends points path marks links n }
-    ensures { (result ≡ worst (nodes_in points path marks links n)) × (result ≤ across * n) }
+pub fn worst_wirelength(arena: &Arena) -> u32
+    requires { Lends arena.now }
+    ensures { (result ≡ worst (nodes_in arena.now)) × (result ≤ across * arena.now.counts.nodes) }
 {
-    worst_below(points, path, marks, links, n, NodeIndex(0), n)
+    worst_below(arena, NodeIndex(0), usize::from(arena.counts.nodes))
 }
 
-// ---- kinds
+// ---- what comes with a tree, and its measures
 
-// A kind as the paper numbers it; any other number is a terminal's.
-pub fn kind_of(kind: u16) -> u16
-    ensures { (k : ℕ) → result ≡ kind_of (name_from kind k) }
+// A, W, L and V.
+#[derive(Clone, Copy)]
+pub struct Figures {
+    pub allowed: i32,
+    pub farthest: u32,
+    pub total: u32,
+    pub worst: u32,
+}
+
+pub fn figures_of(arena: &Arena, allowed: i32, farthest: u32) -> Figures
+    requires { Lends arena.now }
+    ensures allowed { result.allowed ≡ allowed }
+    ensures farthest { result.farthest ≡ farthest }
+    ensures total { result.total ≡ total (nodes_in arena.now) }
+    ensures worst { result.worst ≡ worst (nodes_in arena.now) }
 {
-    if kind == tree::SOURCE {
-        return tree::SOURCE;
+    Figures {
+        allowed,
+        farthest,
+        total: total_wirelength(arena),
+        worst: worst_wirelength(arena),
     }
-    if kind == tree::STEINER {
-        return tree::STEINER;
-    }
-    tree::TERMINAL
 }

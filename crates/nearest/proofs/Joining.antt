@@ -7,6 +7,7 @@ use mathlib.Core.List.{List}
 use native.Mathlib.Omega.{arith}
 use lib.ListN.{length, get_or}
 use lib.IntN.{ℤ}
+use Rattle.std.specs.Prelude.{Option, Some}
 use Rattle.geometry.specs.declared.Point.{Point}
 use Rattle.tree.specs.declared.NodeIndex.{NodeIndex}
 use Rattle.tree.specs.Tree.{Node, node_at}
@@ -25,8 +26,6 @@ use Rattle.search.specs.Find.{join_of, Joins}
 use Rattle.search.proofs.Keepouts.{scan_ends}
 use Rattle.search.proofs.Defined.{view_of, join_is}
 use Rattle.search.proofs.TreeWalk.{views_are, joins}
-use Rattle.nearest.specs.declared.Nearest.{Nearest}
-use Rattle.nearest.specs.declared.Nearest.TheVariants.{Alone}
 use Rattle.nearest.specs.Summed.{Summed}
 use Rattle.nearest.specs.Columns.{SummedColumns}
 use Rattle.nearest.specs.Sole.{SoleIn, Right, join_on}
@@ -34,7 +33,7 @@ use Rattle.nearest.proofs.Standing.{here, parent-low}
 use Rattle.nearest.proofs.Branches.{alone_there}
 
 -- an answer that is sure, as it was matched
-pub sure : {n : ℕ} {a : Query} {xs ys : List ℤ} {path parent : List ℕ} {c : NodeIndex} (r : Nearest) → r ≡ Alone c → Right n a xs ys path parent r → SoleIn n a xs ys path parent c.0
+pub sure : {n : ℕ} {a : Query} {xs ys : List ℤ} {path parent : List ℕ} {c : NodeIndex} (r : Option NodeIndex) → r ≡ Some c → Right n a xs ys path parent r → SoleIn n a xs ys path parent c.0
 sure {n} {a} {xs} {ys} {path} {parent} r e h = subst (Right n a xs ys path parent) e h
 
 -- both ends of its branch stand in the columns

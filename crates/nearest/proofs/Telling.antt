@@ -8,10 +8,10 @@ use lib.ListN.{get_or}
 use lib.Dec.{leb}
 use lib.IntN.{ℤ, pos}
 use lib.Signed.{le_z}
+use Rattle.std.specs.Prelude.{Option, Some, None}
+use Rattle.tree.specs.declared.NodeIndex.{NodeIndex}
 use Rattle.search.specs.declared.Query.{Query}
 use Rattle.nearest.specs.declared.Least.{Least}
-use Rattle.nearest.specs.declared.Nearest.{Nearest}
-use Rattle.nearest.specs.declared.Nearest.TheVariants.{Alone, Unsure}
 use Rattle.nearest.specs.Ranks.{branch_indices, excess, branch_rank, entry}
 use Rattle.nearest.specs.Columns.{Distances, SummedColumns}
 use Rattle.nearest.specs.Sole.{TwoLeast, Told, Right, rank_in}
@@ -27,8 +27,8 @@ module _ {n : ℕ} (a : Query) {xs ys : List ℤ} {path parent e : List ℕ} (v 
       let E = d.each (get_or parent c 0) (v.up c p h) in
       λ i. (entry path (get_or parent c 0) + E i + d.each c h i - entry path c) * branch_indices + c + excess (entry path (get_or parent c 0) + E i) allowed
 
-  pub right : {l : Least} → TwoLeast (branch_rank (entry e) (entry path) (entry parent) allowed) n l → (r : Nearest) → Told l r → Right n a xs ys path parent r
-  right w (Alone c) t =
+  pub right : {l : Least} → TwoLeast (branch_rank (entry e) (entry path) (entry parent) allowed) n l → (r : Option NodeIndex) → Told l r → Right n a xs ys path parent r
+  right w (Some c) t =
       record {
         allowed = allowed;
         reads = reads;
@@ -36,4 +36,4 @@ module _ {n : ℕ} (a : Query) {xs ys : List ℤ} {path parent e : List ℕ} (v 
             sole-same _ ranks_same
             (alone _ (λ i p h. child_of_lem (entry e) (entry path) (entry parent) allowed i (omega (arith, v.points.few))) w t.0 t.1 t.2);
       }
-  right w Unsure t = tt
+  right w None t = tt

@@ -1,17 +1,16 @@
 -- The least rank and the next: what the loop finds, and when the least is of a branch that is alone the nearest.
-use Rattle.std.specs.Prelude.{ℕ, ◌/◌, ◌%◌, ◌≤◌, ◌<◌, ◌≡◌, ◌≢◌, List, leb, ℤ, pos}
+use Rattle.std.specs.Prelude.{ℕ, ◌/◌, ◌%◌, ◌≤◌, ◌<◌, ◌≡◌, ◌≢◌, Option, Some, None, List, leb, ℤ, pos}
 use Rattle.std.specs.Int.Signed.{le_z}
 use Rattle.geometry.specs.declared.Point.{Point}
 use Rattle.geometry.specs.Geometry.{dist}
 use Rattle.tree.specs.Search.{nearest_on}
+use Rattle.tree.specs.declared.NodeIndex.{NodeIndex}
 use Rattle.search.specs.declared.Join.{Join}
 use Rattle.search.specs.declared.Query.{Query}
 use Rattle.search.specs.Branch.{join_at}
 use Rattle.tree.specs.Memory.{point_at}
 use Rattle.search.specs.Walk.{view_at}
 use Rattle.nearest.specs.declared.Least.{Least}
-use Rattle.nearest.specs.declared.Nearest.{Nearest}
-use Rattle.nearest.specs.declared.Nearest.TheVariants.{Alone, Unsure}
 use Rattle.nearest.specs.Ranks.{branch_indices, beyond, no_rank, branch_rank, entry}
 
 -- of the ranks r 1 .. r (n - 1), the least (no_rank where there is none), and a second that no other is below
@@ -28,9 +27,9 @@ pub record Sole (r : ℕ → ℕ) (n c : ℕ) : Type 0 where
   pub nearer : (b : ℕ) → 0 < b → b < n → b ≢ c → r c / branch_indices < r b / branch_indices
 
 -- an answer that is sure: the least is within the allowance, and the next has a greater D
-abbrev pub Told : Least → Nearest → Type 0
-Told l (Alone c) = (l.first < beyond) × (l.first / branch_indices < l.second / branch_indices) × (c.0 ≡ l.first % branch_indices)
-Told l Unsure = Unit {0}
+abbrev pub Told : Least → Option NodeIndex → Type 0
+Told l (Some c) = (l.first < beyond) × (l.first / branch_indices < l.second / branch_indices) × (c.0 ≡ l.first % branch_indices)
+Told l None = Unit {0}
 
 -- the ranks of the branches of a tree in columns
 abbrev pub rank_in : ℕ → Query → List ℤ → List ℤ → List ℕ → List ℕ → ℕ → ℕ
@@ -43,9 +42,9 @@ pub record SoleIn (n : ℕ) (a : Query) (xs ys : List ℤ) (path parent : List �
   pub sole : Sole (rank_in allowed a xs ys path parent) n c
 
 -- an answer that is sure is right
-abbrev pub Right : ℕ → Query → List ℤ → List ℤ → List ℕ → List ℕ → Nearest → Type 0
-Right n a xs ys path parent (Alone c) = SoleIn n a xs ys path parent c.0
-Right n a xs ys path parent Unsure = Unit {0}
+abbrev pub Right : ℕ → Query → List ℤ → List ℤ → List ℕ → List ℕ → Option NodeIndex → Type 0
+Right n a xs ys path parent (Some c) = SoleIn n a xs ys path parent c.0
+Right n a xs ys path parent None = Unit {0}
 
 -- where q joins on the branch from p to c
 abbrev pub join_on : Point → List ℤ → List ℤ → List ℕ → ℕ → ℕ → Join

@@ -2,6 +2,8 @@
 use Rattle.std.specs.Prelude.{ℕ, ◌≤◌, List, length, ℤ}
 use Rattle.tree.specs.Shape.{Linked, PathSums}
 use Rattle.search.specs.declared.Query.{Query}
+use Rattle.search.specs.declared.NodeColumns.{NodeColumns}
+use Rattle.search.specs.declared.LinkColumns.{LinkColumns}
 use Rattle.search.specs.Find.{Ready}
 use Rattle.joining.specs.Store.{ParentsIn}
 
@@ -12,3 +14,7 @@ pub record Summed (n : ℕ) (a : Query) (xs ys : List ℤ) (path parent last pre
   pub in_parent : n ≤ length parent
   pub parents : ParentsIn ready.nodes parent
   pub sums : PathSums ready.nodes
+
+-- the same of lent columns
+abbrev pub SummedIn : ℕ → Query → NodeColumns → List ℕ → LinkColumns → Type 0
+SummedIn n a v parent l = Summed n a v.xs.now v.ys.now v.path.now parent l.last.now l.prev.now

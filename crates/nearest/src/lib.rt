@@ -2,21 +2,21 @@
 // The branch is found without a walk in a tree whose path lengths are sums, where there is no keepout. With e the distance to the point, the branch from P to C has L = path P + e P and 2·D = e P + e C - d(P, C) = L + e C - path C.
 #![tactic(auto)]
 
-ghost use Rattle.std.specs.Prelude.{◌≡◌, ◌+◌, ◌≤◌, ◌<◌, min, max, length, get_or};
+ghost use Rattle.std.specs.Prelude.{◌≡◌, ◌+◌, ◌≤◌, ◌<◌, length, get_or};
 ghost use Rattle.geometry.specs.Geometry.{dist};
 ghost use Rattle.tree.specs.Limits.{most_nodes};
 ghost use Rattle.tree.specs.Memory.{point_at};
-ghost use Rattle.search.specs.Columns.{InReach};
+ghost use Rattle.search.specs.Columns.{ReachIn};
 ghost use Rattle.joining.specs.Buffers.{column};
-ghost use Rattle.search.specs.Find.{Joins};
-ghost use Rattle.nearest.specs.Summed.{Summed};
+ghost use Rattle.search.specs.Find.{JoinsIn};
+ghost use Rattle.nearest.specs.Summed.{SummedIn};
 ghost use Rattle.nearest.specs.Closest.{node_indices, node_rank, ClosestOf};
 ghost use Rattle.nearest.specs.Ranks.{excess, branch_rank, entry, Rankable, AllRankable};
 ghost use Rattle.nearest.specs.Columns.{NearAt, NearPoints, Distances, SummedColumns};
 ghost use Rattle.nearest.specs.Sole.{TwoLeast, Told, Right, join_on};
 
 use geometry::Point;
-use search::{Found, Join, Query};
+use search::{Found, Join, LinkColumns, NodeColumns, Query};
 use tree::NodeIndex;
 
 // More than any index of a node, and few enough for a rank of 32 bits.
@@ -31,6 +31,22 @@ const BEYOND: u64 = 1152921504606846976;
 // The rank where there is no branch.
 const NO_RANK: u64 = 18446744073709551615;
 
+// Points in two columns.
+#[derive(Clone, Copy)]
+pub struct PointColumns<'a> {
+    pub xs: &'a [i32],
+    pub ys: &'a [i32],
+}
+
+// The branches of a tree, each named by its child: the allowance, and the nodes' distances to the point, path lengths and parents.
+#[derive(Clone, Copy)]
+struct BranchColumns<'a> {
+    allowed: u32,
+    e: &'a [u32],
+    path: &'a [u32],
+    parent: &'a [u16],
+}
+
 // The least rank, and the next.
 #[derive(Clone, Copy)]
 struct Least {
@@ -38,189 +54,147 @@ struct Least {
     second: u64,
 }
 
-// The child of the branch within the allowance that is nearer than every other one, where it is certain that there is one.
-#[derive(Clone, Copy)]
-enum Nearest {
-    Alone(NodeIndex),
-    Unsure,
-}
-
-// The distance from the i-th point to q.
-fn distance_at<'a>(xs: &'a [i32], ys: &'a [i32], i: usize, q: Point) -> u32
-    requires { NearAt q xs.now ys.now i }
-    ensures { result ≡ dist (point_at xs.now ys.now i) q }
-{
-    let x = geometry::min_dist(xs[i], q.xcoord);
-    let y = geometry::min_dist(ys[i], q.ycoord);
-    x + y
-}
-
 // ---- the nearest node
 
-// Node i in the order of distance to q, then of index: one number, which loses neither.
-fn node_rank<'a>(xs: &'a [i32], ys: &'a [i32], i: usize, q: Point) -> u32
-    requires { NearAt q xs.now ys.now i × (i < node_indices) }
-    ensures { result ≡ node_rank xs.now ys.now q i }
-{
-    let d = distance_at(xs, ys, i, q);
-    d * NODE_INDICES + (i as u32)
-}
+impl PointColumns<'_> {
+    // The distance from the i-th point to q. In 32 bits, so that the compiler makes a loop over it wide.
+    fn distance_at(self, i: usize, q: Point) -> u32
+        requires { NearAt q self.xs.now self.ys.now i }
+        ensures { result ≡ dist (point_at self.entry.xs.now self.entry.ys.now i) q }
+    {
+        let x = geometry::min_dist(self.xs[i], q.xcoord);
+        let y = geometry::min_dist(self.ys[i], q.ycoord);
+        x + y
+    }
 
-// The rank of the closer node.
-fn closer(best: u32, next: u32) -> u32
-    ensures { result ≡ min best next }
-{
-    if next < best { next } else { best }
+    // Node i in the order of distance to q, then of index: one number, which loses neither.
+    fn rank(self, i: usize, q: Point) -> u32
+        requires { NearAt q self.xs.now self.ys.now i × (i < node_indices) }
+        ensures { result ≡ node_rank self.entry.xs.now self.entry.ys.now q i }
+    {
+        self.distance_at(i, q) * NODE_INDICES + i as u32
+    }
 }
 
 // The node of least distance to q among the first n, the lowest index on ties.
-pub fn find_nearest_node<'a>(xs: &'a [i32], ys: &'a [i32], n: u16, q: Point) -> NodeIndex
-    requires { NearPoints n q xs.now ys.now }
-    ensures { ClosestOf n n xs.now ys.now q result.0 }
+pub fn find_nearest_node(points: PointColumns, n: u16, q: Point) -> NodeIndex
+    requires { NearPoints n q points.xs.now points.ys.now }
+    ensures { ClosestOf n n points.entry.xs.now points.entry.ys.now q result.0 }
 {
-    let m = search::wide(n);
-    let mut best = node_rank(xs, ys, 0, q);
-    let mut i: usize = 1;
-    while i < m {
-        let r = node_rank(xs, ys, i, q);
-        best = closer(best, r);
-        i = i + 1;
+    let mut best = points.rank(0, q);
+    for i in 1..usize::from(n) {
+        best = best.min(points.rank(i, q));
     }
     NodeIndex((best % NODE_INDICES) as u16)
 }
 
-// The same of a tree in buffers.
-pub fn closest_node<'a>(points: &'a [i32; joining::POINTS], n: u16, q: Point) -> NodeIndex
+// The same of a tree in an arena.
+pub fn closest_node(points: &[i32; joining::POINTS], n: u16, q: Point) -> NodeIndex
     requires { NearPoints n q (column 0 points.now) (column 1 points.now) }
     ensures { ClosestOf n n (column 0 points.now) (column 1 points.now) q result.0 }
 {
     let all = &points[..];
-    find_nearest_node(
-        &all[0..joining::YS],
-        &all[joining::YS..joining::POINTS],
-        n,
-        q,
-    )
+    let columns = PointColumns {
+        xs: &all[0..joining::YS],
+        ys: &all[joining::YS..joining::POINTS],
+    };
+    find_nearest_node(columns, n, q)
 }
 
 // ---- ranks of branches
 
 // The distances from the first n points to q. The compiler makes this loop wide.
-fn put_distances<'a>(e: &mut [u32], n: usize, q: Point, xs: &'a [i32], ys: &'a [i32])
-    requires { NearPoints n q xs.now ys.now × (n ≤ length e.old) }
-    ensures { Distances n q xs.now ys.now e.new }
+fn put_distances(e: &mut [u32], n: usize, q: Point, points: PointColumns)
+    requires { NearPoints n q points.xs.now points.ys.now × (n ≤ length e.old) }
+    ensures { Distances n q points.entry.xs.now points.entry.ys.now e.new }
 {
-    let mut i: usize = 0;
-    while i < n {
-        e[i] = distance_at(xs, ys, i, q);
-        i = i + 1;
+    for i in 0..n {
+        e[i] = points.distance_at(i, q);
     }
 }
 
-fn lesser(a: u64, b: u64) -> u64
-    ensures { result ≡ min a b }
-{
-    if b < a { b } else { a }
-}
-
-fn greater(a: u64, b: u64) -> u64
-    ensures { result ≡ max a b }
-{
-    if b < a { a } else { b }
-}
-
 // What the rank of a branch beyond the allowance has more.
+#[tactic(auto, unfolding(crate::specs::Ranks::excess))]
 fn excess(l: u32, allowed: u32) -> u64
     ensures { result ≡ excess l allowed }
 {
     if allowed < l { BEYOND } else { 0 }
 }
 
-// The branch to c, in the order of D, then of c's index; those beyond the allowance come last.
-fn branch_rank<'a>(c: usize, allowed: u32, e: &'a [u32], path: &'a [u32], parent: &'a [u16]) -> u64
-    requires { Rankable e.now path.now parent.now c }
-    ensures { result ≡ branch_rank (entry e.now) (entry path.now) (entry parent.now) allowed c }
-{
-    let p = search::wide(parent[c]);
-    let l = path[p] + e[p];
-    let d = l + e[c] - path[c];
-    (d as u64) * BRANCH_INDICES + (c as u64) + excess(l, allowed)
-}
-
-// The least rank of a branch, and the next. A branch is named by its child: every node but the source.
-fn two_least<'a>(n: usize, allowed: u32, e: &'a [u32], path: &'a [u32], parent: &'a [u16]) -> Least
-    requires { AllRankable n e.now path.now parent.now }
-    ensures { TwoLeast (branch_rank (entry e.now) (entry path.now) (entry parent.now) allowed) n result }
-{
-    let mut first = NO_RANK;
-    let mut second = NO_RANK;
-    let mut c: usize = 1;
-    while c < n {
-        let r = branch_rank(c, allowed, e, path, parent);
-        second = lesser(second, greater(first, r));
-        first = lesser(first, r);
-        c = c + 1;
+impl BranchColumns<'_> {
+    // The branch to c, in the order of D, then of c's index; those beyond the allowance come last.
+    fn rank(self, c: usize) -> u64
+        requires { Rankable self.e.now self.path.now self.parent.now c }
+        ensures { result ≡ branch_rank (entry self.entry.e.now) (entry self.entry.path.now) (entry self.entry.parent.now) self.entry.allowed c }
+    {
+        let p = usize::from(self.parent[c]);
+        let l = self.path[p] + self.e[p];
+        let d = l + self.e[c] - self.path[c];
+        u64::from(d) * BRANCH_INDICES + c as u64 + excess(l, self.allowed)
     }
-    Least {
-        first: first,
-        second: second,
+
+    // The least rank of a branch, and the next: of every node but the source.
+    fn two_least(self, n: usize) -> Least
+        requires { AllRankable n self.e.now self.path.now self.parent.now }
+        ensures { TwoLeast (branch_rank (entry self.entry.e.now) (entry self.entry.path.now) (entry self.entry.parent.now) self.entry.allowed) n result }
+    {
+        let mut first = NO_RANK;
+        let mut second = NO_RANK;
+        for c in 1..n {
+            let r = self.rank(c);
+            second = second.min(first.max(r));
+            first = first.min(r);
+        }
+        Least { first, second }
     }
 }
 
 // ---- the nearest branch
 
-// A branch is alone where the next has a greater D.
-fn tell(l: Least) -> Nearest
-    ensures { Told l result }
-{
-    let d = l.first / BRANCH_INDICES;
-    if l.first < BEYOND {
-        if d < l.second / BRANCH_INDICES {
-            let c = (l.first % BRANCH_INDICES) as u16;
-            return Nearest::Alone(NodeIndex(c));
+impl Least {
+    // The child of the branch that is alone the nearest: the next has a greater D.
+    fn alone(self) -> Option<NodeIndex>
+        ensures { Told self result }
+    {
+        if self.first < BEYOND && self.first / BRANCH_INDICES < self.second / BRANCH_INDICES {
+            return Some(NodeIndex((self.first % BRANCH_INDICES) as u16));
         }
+        None
     }
-    Nearest::Unsure
 }
 
-// The branch that is alone the nearest, if the two least ranks tell it. No branch is within a negative allowance.
-fn find_nearest<'a>(
-    n: usize,
-    query: Query,
-    xs: &'a [i32],
-    ys: &'a [i32],
-    path: &'a [u32],
-    parent: &'a [u16],
-) -> Nearest
-    requires { SummedColumns n query.point xs.now ys.now path.now parent.now }
-    ensures { Right n query xs.now ys.now path.now parent.now result }
+// The child of the branch within the allowance that is nearer than every other one, where it is certain that there is one.
+fn find_nearest(n: usize, query: Query, nodes: NodeColumns, parent: &[u16]) -> Option<NodeIndex>
+    requires { SummedColumns n query.point nodes.xs.now nodes.ys.now nodes.path.now parent.now }
+    ensures { Right n query nodes.entry.xs.now nodes.entry.ys.now nodes.entry.path.now parent.now result }
 {
+    // No branch is within a negative allowance.
     if query.allowed < 0 {
-        return Nearest::Unsure;
+        return None;
     }
-    let a = query.allowed as u32;
     let mut e = [0u32; tree::MOST_NODES];
-    put_distances(&mut e, n, query.point, xs, ys);
-    let l = two_least(n, a, &e, path, parent);
-    tell(l)
+    let points = PointColumns {
+        xs: nodes.xs,
+        ys: nodes.ys,
+    };
+    put_distances(&mut e, n, query.point, points);
+    let branches = BranchColumns {
+        allowed: query.allowed as u32,
+        e: &e,
+        path: nodes.path,
+        parent,
+    };
+    branches.two_least(n).alone()
 }
 
 // Where q joins on the branch to c.
-fn join_on<'a>(
-    c: NodeIndex,
-    q: Point,
-    xs: &'a [i32],
-    ys: &'a [i32],
-    path: &'a [u32],
-    parent: &'a [u16],
-) -> Join
-    requires { (c.0 < length parent.now) × InReach xs.now ys.now path.now c.0 × InReach xs.now ys.now path.now (get_or parent.now c.0 0) }
-    ensures { result ≡ join_on q xs.now ys.now path.now (get_or parent.now c.0 0) c.0 }
+fn join_on(c: NodeIndex, q: Point, nodes: NodeColumns, parent: &[u16]) -> Join
+    requires { (c.0 < length parent.now) × ReachIn nodes c.0 × ReachIn nodes (get_or parent.now c.0 0) }
+    ensures { result ≡ join_on q nodes.entry.xs.now nodes.entry.ys.now nodes.entry.path.now (get_or parent.now c.0 0) c.0 }
 {
-    let i = search::wide(c.0);
-    let p = parent[i];
-    let at = search::view_at(xs, ys, path, NodeIndex(p));
-    let to = search::view_at(xs, ys, path, c);
+    let p = NodeIndex(parent[usize::from(c)]);
+    let at = search::view_at(nodes, p);
+    let to = search::view_at(nodes, c);
     let near = search::nearest_on(at.point, to.point, q);
     search::join_at(near, at, to)
 }
@@ -231,32 +205,27 @@ fn found_at(join: Join, n: usize) -> Found
     ensures { (result.join ≡ join) × (result.looks + 1 ≡ n) }
 {
     Found {
-        join: join,
+        join,
         looks: (n - 1) as u32,
     }
 }
 
 // Where the search over a tree of n nodes has the point join, and how many branches it examines.
-pub fn find_join<'a>(
+pub fn find_join(
     n: usize,
     query: Query,
-    xs: &'a [i32],
-    ys: &'a [i32],
-    path: &'a [u32],
-    parent: &'a [u16],
-    last: &'a [u16],
-    prev: &'a [u16],
-    ks: &'a [i32],
+    nodes: NodeColumns,
+    parent: &[u16],
+    links: LinkColumns,
+    ks: &[i32],
 ) -> Found
-    requires { Summed n query xs.now ys.now path.now parent.now last.now prev.now }
-    ensures { Joins n query xs.now ys.now path.now last.now prev.now ks.now result }
+    requires { SummedIn n query nodes parent.now links }
+    ensures { JoinsIn n query nodes.entry links.entry ks.now result }
 {
     if ks.len() < tree::KEEPOUT_BOUNDS {
-        let near = find_nearest(n, query, xs, ys, path, parent);
-        if let Nearest::Alone(c) = near {
-            let j = join_on(c, query.point, xs, ys, path, parent);
-            return found_at(j, n);
+        if let Some(c) = find_nearest(n, query, nodes, parent) {
+            return found_at(join_on(c, query.point, nodes, parent), n);
         }
     }
-    search::find_insertion_point(n, query, xs, ys, path, last, prev, ks)
+    search::find_insertion_point(n, query, nodes, links, ks)
 }

@@ -10,6 +10,7 @@ use lib.ListN.{length, get_or}
 use lib.Dec.{eqb}
 use borrow.Author.Tests.{eqb-true, eqb-false}
 use Rattle.tree.specs.Limits.{no_node}
+use Rattle.tree.specs.Memory.{name_in, named, type_of}
 use Rattle.tree.specs.Tree.{zero_figure, Node, at, node_at}
 use Rattle.tree.specs.Optimize.{closed, closed_parent, closed_node, close_up}
 use Rattle.tree.proofs.Closing.{opened, opened_not, opened_near, closed_opened, at_close, length_close}
@@ -17,7 +18,7 @@ use Rattle.search.specs.Walk.{node_index}
 use Rattle.search.specs.Columns.{Has, Chain}
 use Rattle.joining.specs.declared.Row.{Row}
 use Rattle.joining.specs.Links.{ChildrenAre, BackedBy}
-use Rattle.joining.specs.Store.{Rows, row_at, Store, columns_of, name_from, parent_from, node_from, Keeps, Backs, SizedStore}
+use Rattle.joining.specs.Store.{Rows, row_at, Store, columns_of, parent_from, node_from, Keeps, Backs, SizedStore}
 use Rattle.joining.proofs.Lists.{Held}
 use Rattle.joining.proofs.Steps.{parent-at, node_lift}
 use Rattle.removing.specs.Close.{closed_link, ClosedBy, LinksClosed}
@@ -38,7 +39,7 @@ reads_at {blank = blank} {i = i} {l' = l'} v j h = ap (λ (x : ℕ). get_or l' x
 
 -- a row with its link lowered
 abbrev closed_row : ℕ → Row → Row
-closed_row i r = record { point = r.point; path = r.path; parent = node_index (closed_link i r.parent.0); kind = r.kind; number = r.number }
+closed_row i r = record { point = r.point; path = r.path; parent = node_index (closed_link i r.parent.0); name = r.name }
 
 row-closed : (n i : ℕ) (r r' : Rows) → RowsClosed n i r r' → (j : ℕ) → opened i j < n → row_at r' j ≡ closed_row i (row_at r (opened i j))
 row-closed n i r r' v j h =
@@ -46,8 +47,7 @@ row-closed n i r r' v j h =
       point = record { xcoord = reads_at v.xs j h k; ycoord = reads_at v.ys j h k };
       path = reads_at v.path j h k;
       parent = node_index (reads_at v.parent j h k);
-      kind = reads_at v.kind j h k;
-      number = reads_at v.number j h k;
+      name = named (type_of (reads_at v.kind j h k)) (reads_at v.number j h k);
     }
 
 parent-closed : (n i v : ℕ) → n ≤ no_node → ((p : ℕ) → parent_from v ≡ at p → p < n) → parent_from (closed_link i v) ≡ closed_parent i (parent_from v)
@@ -130,7 +130,7 @@ module _ (i : ℕ) (ns : List Node) (h : i < length ns) (few : length ns ≤ no_
           node_lift M s'.rows j (closed_node i (node_at ns o)) (closed_row i r) (at_close i ns j) (row-closed (length ns) i s.rows s'.rows v.rows j (was_in j l))
           (ap (closed_node i) e
           ∙ (λ x. record {
-            name = name_from r.kind r.number;
+            name = name_in r.name;
             parent = sym (parent-closed (length ns) i r.parent.0 few (λ p f. k.above o p (was_in j l) (opened_not i j) (ap (λ (n : Node). n.parent) e ∙ f))) x;
             point = r.point;
             children = map (closed i) (node_at ns o).children;

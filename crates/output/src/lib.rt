@@ -1,62 +1,38 @@
 // What a call that writes to a lent buffer answers, and bytes written to one.
 #![tactic(auto)]
 
-ghost use Rattle.std.specs.Prelude.{◌≤◌, ◌-◌, length};
-ghost use Rattle.wire.specs.Puts.{Puts};
-ghost use Rattle.output.specs.Answer.{Answers};
+ghost use Rattle.std.specs.Prelude.{List, ◌<◌, length};
+ghost use Rattle.std.specs.Fn.{FnOnceReturnsAtMut};
+ghost use Rattle.wire.specs.Puts.{Puts, last_place};
+ghost use Rattle.output.specs.Answer.{Answers, Writes};
 
-// 11, "an output buffer shorter than what is to be written".
-pub const NO_ROOM: u8 = 11;
-
-// How much was written, from the buffer's start; or the number of a refusal, and then nothing was written.
-#[derive(Clone, Copy)]
-pub enum Answer {
-    Wrote(usize),
-    Refused(u8),
-}
-
-// s at a place where it fits whole: a plain copy.
-fn copy_bytes(out: &mut [u8], at: usize, s: &[u8]) -> usize
-    requires { length s.now ≤ length out.old - at }
-    ensures { Puts out.old at s.now out.new result }
-{
-    let n = s.len();
-    let mut k: usize = 0;
-    while k < n {
-        out[at + k] = s[k];
-        k = k + 1;
-    }
-    at + k
-}
-
-// s at a place: what would stand past the end is left out, and still counts.
-fn put_each(out: &mut [u8], at: usize, s: &[u8]) -> usize
-    ensures { Puts out.old at s.now out.new result }
-{
-    let mut p = at;
-    let mut k: usize = 0;
-    while k < s.len() {
-        p = wire::put(out, p, s[k]);
-        k = k + 1;
-    }
-    p
-}
+use refusal::Refusal;
 
 pub fn put_bytes(out: &mut [u8], at: usize, s: &[u8]) -> usize
     ensures { Puts out.old at s.now out.new result }
 {
-    if s.len() <= wire::room(out.len(), at) {
-        return copy_bytes(out, at, s);
-    }
-    put_each(out, at, s)
+    wire::put_all(out, at, s)
 }
 
-// s, if it fits whole.
-pub fn write_bytes(s: &[u8], out: &mut [u8]) -> Answer
+// s from the buffer's start, if it fits whole, and how long it is.
+pub fn write_bytes(s: &[u8], out: &mut [u8]) -> Result<usize, Refusal>
     ensures { Answers s.now out.old result out.new }
 {
     if out.len() < s.len() {
-        return Answer::Refused(NO_ROOM);
+        return Err(Refusal::NoRoom);
     }
-    Answer::Wrote(put_bytes(out, 0, s))
+    Ok(wire::put_all(out, 0, s))
+}
+
+// What a writer writes from a buffer's start, if it fits whole, and how long it is. The same writer measures it, on a buffer of none.
+pub fn write_measured<T, F: Fn(&mut [T]) -> usize>(out: &mut [T], put: F) -> Result<usize, Refusal>
+    requires callable { F.IsAlwaysCallable put }
+    requires few { length out.old < last_place }
+    ensures { (xs : List T) → Writes (FnOnceReturnsAtMut F.FnOnce put) xs out.old → Answers xs out.old result out.new }
+{
+    let m = put(&mut []);
+    if out.len() < m {
+        return Err(Refusal::NoRoom);
+    }
+    Ok(put(out))
 }

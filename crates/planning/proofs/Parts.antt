@@ -13,18 +13,14 @@ use Rattle.wire.specs.Puts.{Puts, puts_as, puts_then, puts_length}
 use Rattle.tree.specs.Tree.{Tree, total}
 use Rattle.tree.specs.Measures.{worst}
 use Rattle.text.specs.Text.{text_of}
-use Rattle.route.specs.Routing.{route_of}
-use Rattle.job.specs.declared.ReadAnswer.TheVariants.{Accepted}
-use Rattle.job.specs.declared.ReadAnswer.TheVariants as given
-use Rattle.tables.specs.Table.{table_tree}
-use Rattle.route.specs.declared.RoutedTable.{RoutedTable}
-use Rattle.route.specs.Tables.{Tables}
-use Rattle.route.proofs.Answers.{routing_is}
-use Rattle.output.specs.Answer.{no_room, content_of, Answers}
+use Rattle.std.specs.Prelude.{Result, Ok, Err}
+use Rattle.refusal.specs.declared.Refusal.{Refusal}
+use Rattle.refusal.specs.declared.Refusal.TheVariants.{NoRoom}
+use Rattle.refusal.specs.Refusals.{number_of}
+use Rattle.route.specs.Routing.{Routing, route_of}
+use Rattle.output.specs.Answer.{content_of, Answers}
 use Rattle.output.specs.Answer as O
 use Rattle.output.proofs.Bytes.{put_first}
-use Rattle.output.specs.declared.Answer.{Answer}
-use Rattle.output.specs.declared.Answer.TheVariants.{Wrote, Refused}
 use Rattle.planning.specs.Output.{most_text, most_output, refusal_line, figures_line_of, tree_output, output_for, output_of}
 use Rattle.planning.proofs.Room.{figures-short}
 
@@ -39,29 +35,21 @@ put_front {xs} {out} {out'} {n} p h =
     let (e, t) = put_first p h in
     record { low = omega (arith, e, puts_length p); text = ap (λ (k : ℕ). take k out') e ∙ t }
 
--- the number in an answer, and whether it wrote
-abbrev number_in : Answer → ℕ
-number_in (Wrote m) = m
-number_in (Refused n) = n
-
-abbrev wrote : Answer → ℕ
-wrote (Wrote m) = 1
-wrote (Refused n) = 0
-
 -- of an answer that wrote
-pub front : {xs out out' : List ℕ} {r : Answer} → Answers xs out r out' → {m : ℕ} → r ≡ Wrote m → Front xs out' m
+pub front : {xs out out' : List ℕ} {r : Result ℕ Refusal} → Answers xs out r out' → {m : ℕ} → r ≡ Ok m → Front xs out' m
 unfolding O.answer_of content_of
-front {xs} {out} {out'} a {m} e = by (leb (length xs) (length out)) refl
+front {xs} {out} {out'} {r} a {m} e = by (leb (length xs) (length out)) refl
   where
     by : (t : Bool) → leb (length xs) (length out) ≡ t → Front xs out' m
     by true h =
-        let n : m ≡ length xs = ap number_in (sym e ∙ a.answer ∙ (λ i. cond (h i) (Wrote (length xs)) (Refused no_room))) in
+        let w : r ≡ Ok (length xs) = a.answer ∙ (λ i. cond (h i) (Ok (length xs)) (Err NoRoom)) in
+        let n : m ≡ length xs = cc in
         let c : out' ≡ xs ++ drop (length xs) out = a.content ∙ (λ i. cond (h i) (xs ++ drop (length xs) out) out) in
         let l : length out' ≡ length xs + length (drop (length xs) out) = ap length c ∙ length-append xs (drop (length xs) out) in
         record { low = omega (arith, n, l); text = (λ i. take (n i) (c i)) ∙ take-append_seam xs (drop (length xs) out) }
     by false h =
-        let z : ◌≡◌ {A = ℕ} 1 0 = ap wrote (sym e ∙ a.answer ∙ (λ i. cond (h i) (Wrote (length xs)) (Refused no_room))) in
-        absurd (omega arith)
+        let w : r ≡ Err NoRoom = a.answer ∙ (λ i. cond (h i) (Ok (length xs)) (Err NoRoom)) in
+        cc
 
 -- ---- a tree's output, by its text as it was put into a buffer with room for every output
 module _ (t : Tree) {buffer buffer' : List ℕ} {m : ℕ} (size : most_output ≡ length buffer) (text : Puts buffer 0 (text_of t.nodes) buffer' m) where
@@ -73,7 +61,7 @@ module _ (t : Tree) {buffer buffer' : List ℕ} {m : ℕ} (size : most_output �
       let f = figures-short t.allowed t.farthest (total t.nodes) (worst t.nodes) in
       rw h (put_front (puts_then text (puts_as p e)) (simp length-append (omega (arith, text.to, f))))
 
-  pub too_long : most_text < m → refusal_line no_room ≡ tree_output t
+  pub too_long : most_text < m → refusal_line (number_of NoRoom) ≡ tree_output t
   unfolding tree_output
   too_long l =
       let k : most_text < length (text_of t.nodes) = omega (arith, text.to) in
@@ -81,11 +69,7 @@ module _ (t : Tree) {buffer buffer' : List ℕ} {m : ℕ} (size : most_output �
       rw h
 
 -- ---- a job's output, by what its bytes get
-module _ (job : List ℕ) {r : RoutedTable} (v : Tables (route_of job) r) where
-  pub of_refusal : {n : ℕ} → r.answer ≡ given.Refused n → refusal_line n ≡ output_of job
+module _ (job : List ℕ) where
+  pub of_routing : {x : Routing} → x ≡ route_of job → output_for x ≡ output_of job
   unfolding output_of
-  of_refusal e = ap output_for (routing_is v e)
-
-  pub of_tree : r.answer ≡ Accepted → tree_output (table_tree r.table) ≡ output_of job
-  unfolding output_of
-  of_tree e = ap output_for (routing_is v e)
+  of_routing e = ap output_for e

@@ -12,7 +12,8 @@ use Rattle.decimal.specs.Decimal.{digits, decimal_of, int_text}
 use Rattle.tree.specs.Tree.{Tree, total}
 use Rattle.tree.specs.Measures.{worst}
 use Rattle.text.specs.Text.{text_of}
-use Rattle.output.specs.Answer.{no_room}
+use Rattle.refusal.specs.declared.Refusal.TheVariants.{NoRoom}
+use Rattle.refusal.specs.Refusals.{number_of}
 use Rattle.route.specs.Routing.{Routing, refused, routed, route_of}
 use Rattle.planning.specs.Output.{most_text, most_output, refusal_line, figures_line, figures_line_of, tree_output, output_for, output_of}
 
@@ -49,11 +50,11 @@ tree-short : (t : Tree) → length (tree_output t) ≤ most_output
 unfolding tree_output
 tree-short t = by (leb (length (text_of t.nodes)) most_text) refl
   where
-    by : (b : Bool) → leb (length (text_of t.nodes)) most_text ≡ b → length (cond b (text_of t.nodes ++ figures_line_of t) (refusal_line no_room)) ≤ most_output
+    by : (b : Bool) → leb (length (text_of t.nodes)) most_text ≡ b → length (cond b (text_of t.nodes ++ figures_line_of t) (refusal_line (number_of NoRoom))) ≤ most_output
     by true e =
         let l : length (text_of t.nodes) ≤ most_text = leb-true _ _ e in
         simp length-append (omega (arith, l, figures-short t.allowed t.farthest (total t.nodes) (worst t.nodes)))
-    by false e = omega (arith, refusal_short no_room)
+    by false e = omega (arith, refusal_short (number_of NoRoom))
 
 for_short : (x : Routing) → length (output_for x) ≤ most_output
 for_short (refused n) = omega (arith, refusal_short n)

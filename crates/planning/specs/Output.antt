@@ -5,7 +5,8 @@ use Rattle.decimal.specs.Text.{bytes}
 use Rattle.tree.specs.Tree.{Tree, total}
 use Rattle.tree.specs.Measures.{worst}
 use Rattle.route.specs.Routing.{Routing, refused, routed, route_of}
-use Rattle.output.specs.Answer.{no_room}
+use Rattle.refusal.specs.declared.Refusal.TheVariants.{NoRoom}
+use Rattle.refusal.specs.Refusals.{number_of}
 use Rattle.text.specs.Text.{text_of}
 
 -- "the text (buffer 65,536 bytes)"
@@ -30,7 +31,7 @@ figures_line_of t = figures_line t.allowed t.farthest (total t.nodes) (worst t.n
 
 -- "writes the text (buffer 65,536 bytes), then" the figures; "11, an output buffer shorter than what is to be written"
 unfoldable pub tree_output : Tree → List ℕ
-tree_output t = cond (leb (length (text_of t.nodes)) most_text) (text_of t.nodes ++ figures_line_of t) (refusal_line no_room)
+tree_output t = cond (leb (length (text_of t.nodes)) most_text) (text_of t.nodes ++ figures_line_of t) (refusal_line (number_of NoRoom))
 
 -- "on refusal only `refused n`"
 abbrev pub output_for : Routing → List ℕ

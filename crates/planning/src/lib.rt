@@ -3,13 +3,13 @@
 
 ghost use Rattle.std.specs.Prelude.{◌≡◌, length};
 ghost use Rattle.wire.specs.Puts.{Puts};
+ghost use Rattle.refusal.specs.Refusals.{number_of};
 ghost use Rattle.output.specs.Answer.{Answers};
 ghost use Rattle.tables.specs.Table.{table_tree, Tabled};
 ghost use Rattle.planning.specs.Output.{most_output, refusal_line, figures_line, tree_output, output_of};
 
-use job::ReadAnswer;
-use output::Answer;
-use reading::LineFigures;
+use measures::Figures;
+use refusal::Refusal;
 use tables::Table;
 
 // "the text (buffer 65,536 bytes)"
@@ -26,15 +26,16 @@ pub fn output_buffer() -> [u8; MOST_OUTPUT]
 
 // ---- the lines
 
-pub fn put_refusal(out: &mut [u8], at: usize, n: u8) -> usize
-    ensures { Puts out.old at (refusal_line n) out.new result }
+pub fn put_refusal(out: &mut [u8], at: usize, r: Refusal) -> usize
+    ensures { Puts out.old at (refusal_line (number_of r)) out.new result }
 {
     let p1 = output::put_bytes(out, at, b"refused ");
-    let p2 = decimal::put_u32(out, p1, n as u32);
+    let p2 = decimal::put_u32(out, p1, u32::from(r.number()));
     output::put_bytes(out, p2, b"\n")
 }
 
-pub fn put_figures(out: &mut [u8], at: usize, f: LineFigures) -> usize
+// One write for each part of the line: a list of the parts would need a kind for each.
+pub fn put_figures(out: &mut [u8], at: usize, f: Figures) -> usize
     ensures { Puts out.old at (figures_line f.allowed f.farthest f.total f.worst) out.new result }
 {
     let p1 = output::put_bytes(out, at, b"allowed ");
@@ -48,46 +49,36 @@ pub fn put_figures(out: &mut [u8], at: usize, f: LineFigures) -> usize
     output::put_bytes(out, p8, b"\n")
 }
 
-// ---- written whole or not at all: measured by the same writer, on a buffer of one byte
+// ---- written whole or not at all
 
-fn write_refusal(n: u8, out: &mut [u8]) -> Answer
-    ensures { Answers (refusal_line n) out.old result out.new }
+fn write_refusal(r: Refusal, out: &mut [u8]) -> Result<usize, Refusal>
+    ensures { Answers (refusal_line (number_of r)) out.old result out.new }
 {
-    let mut none = [0u8; 1];
-    let m = put_refusal(&mut none, 0, n);
-    if out.len() < m {
-        return Answer::Refused(output::NO_ROOM);
-    }
-    Answer::Wrote(put_refusal(out, 0, n))
+    output::write_measured(out, |buffer: &mut [u8]| put_refusal(buffer, 0, r))
 }
 
-// ---- a tree in columns, and a job
+// ---- a tree in memory, and a job
 
-fn write_tree(t: Table, out: &mut [u8]) -> Answer
-    requires { Tabled t }
-    ensures { Answers (tree_output (table_tree t)) out.old result out.new }
+fn write_tree(t: &Table, out: &mut [u8]) -> Result<usize, Refusal>
+    requires { Tabled t.now }
+    ensures { Answers (tree_output (table_tree t.now)) out.old result out.new }
 {
     let f = reading::read_figures(t);
     let mut text = output_buffer();
     let m = reading::put_text(t, &mut text, 0);
     if MOST_TEXT < m {
-        return write_refusal(output::NO_ROOM, out);
+        return write_refusal(Refusal::NoRoom, out);
     }
     let n = put_figures(&mut text, m, f);
     output::write_bytes(&text[..n], out)
 }
 
 // What the program writes for a job, whole or not at all. Refusal: 11. The tree stays in columns: nobody is handed it.
-pub fn plan(job: &[u8], out: &mut [u8]) -> Answer
+pub fn plan(job: &[u8], out: &mut [u8]) -> Result<usize, Refusal>
     ensures { Answers (output_of job.now) out.old result out.new }
 {
-    let routed = route::route_table(job);
-    let answer = routed.answer;
-    match answer {
-        ReadAnswer::Refused(n) => write_refusal(n, out),
-        ReadAnswer::Accepted => {
-            let t = routed.table;
-            write_tree(t, out)
-        }
+    match route::route_table(job) {
+        Err(r) => write_refusal(r, out),
+        Ok(t) => write_tree(&t, out),
     }
 }

@@ -72,6 +72,10 @@ module _ (f : Flat) (k : Rectangle) where
 pub few : {ks : List Rectangle} {f : Flat} → Gathers ks f → f.count ≤ room
 few {ks} g = omega (arith, g.count, length-take room ks)
 
+-- of a list with as much room as there is, the first n are the first of as many of n as there is room for
+pub all_taken : (n : ℕ) → room ≤ n → (l : List Rectangle) → length l ≡ room → take room l ≡ take n l
+all_taken n h l e = take_all room l (omega (arith, e)) ∙ sym (take_all n l (omega (arith, e, h)))
+
 -- a call that refuses more than an edit takes answers of what is gathered as of all
 pub answers_same : {A : Type 0} (x : A) (f : List Rectangle → A) (ks : List Rectangle)
     → cond (ltb most_keepouts (length (take room ks))) x (f (take room ks)) ≡ cond (ltb most_keepouts (length ks)) x (f ks)

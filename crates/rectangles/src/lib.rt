@@ -1,19 +1,56 @@
 // Rectangle records as flat numbers: lower x, upper x, lower y, upper y of each, as the search takes keepouts.
 #![tactic(auto)]
 
-ghost use Rattle.std.specs.Prelude.{[]};
-ghost use Rattle.rectangles.specs.Rectangles.{Gathers, Adds};
+ghost use Rattle.std.specs.Prelude.{◌≡◌, ◌≤◌, ◌*◌, [], take};
+ghost use Rattle.rectangles.specs.Rectangles.{room, Gathers, Adds};
 
 use geometry::Rectangle;
 
 // Room for one more than an edit takes, so that of too many there still are too many.
 pub const ROOM: usize = tree::MOST_KEEPOUTS + 1;
 
-// The numbers of `count` rectangles; those after them are not read.
+// The numbers of `count` rectangles; those after them are not read. (An array and a count, here and below, since there is no heap.)
 #[derive(Clone, Copy)]
 pub struct Flat {
     pub bounds: [i32; tree::KEEPOUT_BOUNDS * ROOM],
     pub count: usize,
+}
+
+impl Flat {
+    #[tactic(auto, using(crate::proofs::Gathering::none_yet))]
+    fn none() -> Flat
+        ensures { Gathers [] result }
+    {
+        Flat {
+            bounds: [0; tree::KEEPOUT_BOUNDS * ROOM],
+            count: 0,
+        }
+    }
+
+    // One more, where there is room.
+    #[tactic(auto, using(crate::proofs::Gathering::is_full))]
+    fn add(&mut self, k: Rectangle)
+        ensures { Adds self.old k self.new }
+    {
+        let n = self.count;
+        if n >= ROOM {
+            return;
+        }
+        let i = tree::KEEPOUT_BOUNDS * n;
+        self.bounds[i] = k.xcoord.lb;
+        self.bounds[i + 1] = k.xcoord.ub;
+        self.bounds[i + 2] = k.ycoord.lb;
+        self.bounds[i + 3] = k.ycoord.ub;
+        self.count = n + 1;
+    }
+
+    // The numbers of its rectangles.
+    pub fn bounds(&self) -> &[i32]
+        requires { self.now.count ≤ room }
+        ensures { result.now ≡ take (4 * self.now.count) self.now.bounds }
+    {
+        &self.bounds[..tree::KEEPOUT_BOUNDS * self.count]
+    }
 }
 
 // The first `count` of a list, for a caller that has its rectangles by value.
@@ -23,39 +60,13 @@ pub struct Rectangles {
     pub count: usize,
 }
 
-fn none() -> Flat
-    ensures { Gathers [] result }
-{
-    Flat {
-        bounds: [0; tree::KEEPOUT_BOUNDS * ROOM],
-        count: 0,
-    }
-}
-
-// One more, where there is room.
-#[tactic(auto, using(crate::proofs::Gathering::is_full))]
-fn add(f: Flat, k: Rectangle) -> Flat
-    ensures { Adds f k result }
-{
-    let n = f.count;
-    if n >= ROOM {
-        return f;
-    }
-    let i = tree::KEEPOUT_BOUNDS * n;
-    let mut bounds = f.bounds;
-    let x = k.xcoord;
-    let y = k.ycoord;
-    let lower_x = x.lb;
-    let upper_x = x.ub;
-    let lower_y = y.lb;
-    let upper_y = y.ub;
-    bounds[i] = lower_x;
-    bounds[i + 1] = upper_x;
-    bounds[i + 2] = lower_y;
-    bounds[i + 3] = upper_y;
-    Flat {
-        bounds: bounds,
-        count: n + 1,
+impl Rectangles {
+    // The first `count`, all where there are not so many.
+    #[tactic(auto, using(crate::proofs::Gathering::all_taken))]
+    pub fn lent(&self) -> &[Rectangle]
+        ensures { result.now ≡ take self.now.count self.now.list }
+    {
+        &self.list[..self.count.min(ROOM)]
     }
 }
 
@@ -63,11 +74,9 @@ fn add(f: Flat, k: Rectangle) -> Flat
 pub fn gather(ks: &[Rectangle]) -> Flat
     ensures { Gathers ks.now result }
 {
-    let mut f = none();
-    let mut i: usize = 0;
-    while i < ks.len() {
-        f = add(f, ks[i]);
-        i = i + 1;
+    let mut f = Flat::none();
+    for k in ks {
+        f.add(*k);
     }
     f
 }

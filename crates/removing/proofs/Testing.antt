@@ -2,7 +2,7 @@
 use Prim.Native.Nat.{ℕ, zero, suc, ◌≤◌, ◌<◌}
 use mathlib.Core.Path.{◌≡◌, refl, ap, sym, subst, ◌∙◌}
 use mathlib.Core.Logic.{◌≢◌}
-use mathlib.Core.Bool.{Bool, true, false, not, ◌&&◌}
+use mathlib.Core.Bool.{Bool, true, false, cond, not, ◌&&◌}
 use mathlib.Core.List.{List, [], ◌∷◌}
 use native.Mathlib.Omega.{arith}
 use lib.ListN.{length, get_or, length-reverse}
@@ -12,8 +12,31 @@ use Rattle.tree.specs.Limits.{no_node}
 use Rattle.tree.specs.Tree.{Node, node_at}
 use Rattle.tree.specs.Optimize.{is_steiner, lone}
 use Rattle.search.specs.Columns.{Chain}
-use Rattle.joining.specs.Store.{Store, columns_of, name_from, SizedStore, Keeps}
+use Rattle.std.specs.Prelude.{Option, None, Some, IsSome, is_some}
+use Rattle.tree.specs.declared.NodeIndex.{NodeIndex}
+use Rattle.tree.specs.Memory.{type_number, type_of}
+use Rattle.joining.specs.Store.{Store, columns_of, name_from, index_from, link_in, SizedStore, Keeps}
+use Rattle.joining.proofs.Names.{link_in-from}
 use Rattle.removing.specs.Store.{lone_at, LoneReads}
+
+-- ---- a number of a column as a kind, and as an index
+pub steiner_number : (k : ℕ) → type_number (type_of k) ≡ 1 → k ≡ 1
+steiner_number zero e = absurd (omega arith)
+steiner_number (suc zero) e = refl
+steiner_number (suc (suc n)) e = absurd (omega arith)
+
+abbrev Given : Option NodeIndex → Type 0
+Given None = ⊥
+Given (Some x) = Unit {0}
+
+pub index_is : (v : ℕ) {r : Option NodeIndex} → r ≡ index_from v → link_in r ≡ v
+index_is v e = ap link_in e ∙ link_in-from v
+
+pub index_some : (v : ℕ) (x : NodeIndex) → Some x ≡ index_from v → v ≢ no_node
+index_some v x e d = subst Given (e ∙ ap index_from d) tt
+
+pub index_given : (v : ℕ) {r : Option NodeIndex} → v < no_node → r ≡ index_from v → IsSome r
+index_given v h e = ap is_some e ∙ rw (ne_eqb v no_node (λ d. omega arith))
 
 -- ---- the code's four answers; `place` is i as an index
 module _ (kind last prev : List ℕ) (i place : ℕ) (e : place ≡ i) where
@@ -40,6 +63,13 @@ module _ (kind last prev : List ℕ) (i place : ℕ) (e : place ≡ i) where
 
       pub more_children : get_or prev j 0 ≢ no_node → false ≡ lone_at kind last prev i
       more_children d = by_place false (rw (eq-eqb _ 1 k, ne_eqb _ no_node l, ← f, ne_eqb _ no_node d))
+
+      -- what stands before the child
+      pub before_tells : (b : Bool) (r : Option NodeIndex) → is_some r ≡ not b → r ≡ index_from (get_or prev j 0) → b ≡ lone_at kind last prev i
+      before_tells true None h g = one-child (sym (index_is _ g))
+      before_tells false None h g = absurd (omega (arith, ap {B = ℕ} (λ (t : Bool). cond t 1 0) h))
+      before_tells true (Some x) h g = absurd (omega (arith, ap {B = ℕ} (λ (t : Bool). cond t 1 0) h))
+      before_tells false (Some x) h g = more_children (index_some _ x g)
 
 -- ---- what the nodes say
 steiner_kind_lem : (k n : ℕ) → is_steiner (name_from k n) ≡ eqb k 1

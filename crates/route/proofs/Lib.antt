@@ -3,4 +3,4 @@ pub mod Planning
 pub mod Owed
 pub mod Plans
 pub mod Lending
-pub mod Answers
+pub mod Reading

@@ -104,8 +104,8 @@ module _ (px py : List ℤ) (s : Point) (mode : Mode) (v : Plannable px py s) (p
           allowed = of.allowed i;
           farthest = of.farthest i;
           limit = of.limit i;
-          next_steiner = t.counts.steiner.0;
-          next_terminal = t.counts.terminal.0;
+          next_steiner = t.arena.counts.steiner.0;
+          next_terminal = t.arena.counts.terminal.0;
         })
         ∙ of.columns.tree w
 
@@ -118,7 +118,7 @@ module _ (px py : List ℤ) (s : Point) (mode : Mode) (v : Plannable px py s) (p
     low_w : w ≤ across
     low_w = omega (arith, farthest-bound v)
 
-    back : LinkedBack most_nodes t.counts.nodes (table_links t)
+    back : LinkedBack most_nodes t.arena.counts.nodes (table_links t)
     back =
         let h = of.columns.holds w in
         let few : length (tree_after c.way ks px' py' c.query w (length px')).nodes ≤ most_nodes = omega (arith, h.counted.size, h.counted.steiners, h.stores.terminal, of.columns.next, sorted.size, v.few) in

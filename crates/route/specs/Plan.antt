@@ -32,7 +32,7 @@ pub record Plannable (px py : List ℤ) (s : Point) : Type 0 where
 
 -- the table has the tree of terminals in the order given, by a choice, and carries w
 pub record TableRouted (ks px py : List ℤ) (c : Choice) (w : ℕ) (t : Table) : Type 0 where
-  pub columns : RoutedColumns c.way ks px py c.query t.counts (table_store t)
+  pub columns : RoutedColumns c.way ks px py c.query t.arena.counts (table_store t)
   pub limit : t.limit ≡ c.query.limit
   pub allowed : t.allowed ≡ c.query.allowed
   pub farthest : t.farthest ≡ w
@@ -44,7 +44,7 @@ pub record Planned (ks px py : List ℤ) (s : Point) (mode : Mode) (t : Table) :
   pub counted : Counted (table_tree t)
   pub keeps : Keeps (table_tree t).nodes (table_columns t)
   pub sized : Sized most_nodes (table_columns t)
-  pub back : LinkedBack most_nodes t.counts.nodes (table_links t)
-  pub next : t.counts.terminal.0 ≡ length px + 1
+  pub back : LinkedBack most_nodes t.arena.counts.nodes (table_links t)
+  pub next : t.arena.counts.terminal.0 ≡ length px + 1
   pub limit-small : t.limit ≤ no_limit
   pub farthest-small : t.farthest ≤ across

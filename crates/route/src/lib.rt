@@ -1,24 +1,29 @@
-// A source and terminals become a tree in buffers: sorting, W, the allowance, and the three ways to route.
+// A source and terminals become a tree in memory: sorting, W, the allowance, and the three ways to route.
 #![tactic(auto)]
 
-ghost use Rattle.std.specs.Prelude.{◌≡◌, max};
+ghost use Rattle.std.specs.Prelude.{◌≡◌, IfOk};
 ghost use Rattle.geometry.specs.Laws.{Within};
-ghost use Rattle.tree.specs.Limits.{reach};
+ghost use Rattle.tree.specs.Limits.{reach, most_nodes};
 ghost use Rattle.tree.specs.Memory.{points_of};
 ghost use Rattle.tree.specs.Route.{farthest};
 ghost use Rattle.sorting.specs.Points.{Even};
+ghost use Rattle.joining.specs.Store.{SizedStore};
+ghost use Rattle.joining.specs.Buffers.{stored};
 ghost use Rattle.route.specs.Plan.{choice_of, Plannable, TableRouted, Planned};
 ghost use Rattle.job.specs.Reading.{unpacked};
 ghost use Rattle.tables.specs.Table.{table_tree, Tabled};
 ghost use Rattle.route.specs.Routing.{tree_for, route_of};
 ghost use Rattle.route.specs.Jobs.{Sound};
-ghost use Rattle.route.specs.Tables.{begun, Tables};
+ghost use Rattle.route.specs.Tables.{begun, routing_in};
 
 use geometry::Point;
 use inserting::Way;
-use job::{Mode, ReadAnswer, RoutingJob};
+use job::{Mode, RoutingJob};
+use joining::{Arena, Counts, NodeRows};
+use refusal::Refusal;
 use search::Query;
 use tables::Table;
+use tree::{SteinerNumber, TerminalNumber};
 
 // How a mode routes: the way to join, the tree limit and the allowance.
 #[derive(Clone, Copy)]
@@ -27,23 +32,15 @@ pub struct Choice {
     pub query: Query,
 }
 
-fn larger(a: u32, b: u32) -> u32
-    ensures { result ≡ max a b }
-{
-    if a < b { b } else { a }
-}
-
 // W: the largest distance from the source, 0 with no terminals.
-fn farthest<'a>(px: &'a [i32], py: &'a [i32], s: Point) -> u32
+fn farthest(px: &[i32], py: &[i32], s: Point) -> u32
     requires { Even px.now py.now × Within reach s }
     ensures { result ≡ farthest s (points_of px.now py.now) }
 {
-    let mut w: u32 = 0;
-    let mut i = px.len();
-    while 0 < i {
-        i = i - 1;
-        let q = tree::point_at(px, py, i);
-        w = larger(search::distance(s, q), w);
+    let mut w = 0;
+    for i in 0..px.len() {
+        let d = search::distance(s, tree::point_at(px, py, i));
+        w = d.max(w);
     }
     w
 }
@@ -68,48 +65,46 @@ fn choose(mode: Mode, s: Point, w: u32) -> Choice
             way: Way::Search,
             query: free,
         },
-        Mode::Constraints(m) => {
-            let bound = Query {
+        Mode::Constraints(m) => Choice {
+            way: Way::Search,
+            query: Query {
                 point: s,
                 limit: w,
                 allowed: allowance::allowed(w, m),
-            };
-            Choice {
-                way: Way::Search,
-                query: bound,
-            }
-        }
+            },
+        },
+    }
+}
+
+// An arena in which no tree stands yet.
+fn empty_arena() -> Arena
+    ensures { SizedStore most_nodes (stored result) }
+{
+    Arena {
+        nodes: NodeRows {
+            points: [0; joining::POINTS],
+            path: [0; tree::MOST_NODES],
+            marks: [0; joining::MARKS],
+        },
+        links: [0; joining::LINKS],
+        counts: Counts {
+            nodes: 0,
+            steiner: SteinerNumber(1),
+            terminal: TerminalNumber(1),
+        },
     }
 }
 
 // The tree of terminals in the order given, by a choice; the table carries w.
-fn route_columns<'a>(px: &'a [i32], py: &'a [i32], ks: &'a [i32], c: Choice, w: u32) -> Table
+fn route_columns(px: &[i32], py: &[i32], ks: &[i32], c: Choice, w: u32) -> Table
     requires { Plannable px.now py.now c.query.point }
     ensures { TableRouted ks.now px.now py.now c w result }
 {
-    let way = c.way;
     let query = c.query;
-    let mut points = [0i32; joining::POINTS];
-    let mut path = [0u32; tree::MOST_NODES];
-    let mut marks = [0u16; joining::MARKS];
-    let mut links = [0u16; joining::LINKS];
-    let k = inserting::route_sorted(
-        &mut points,
-        &mut path,
-        &mut marks,
-        &mut links,
-        px,
-        py,
-        ks,
-        way,
-        query,
-    );
+    let mut arena = empty_arena();
+    inserting::route_sorted(&mut arena, px, py, ks, c.way, query);
     Table {
-        points: points,
-        path: path,
-        marks: marks,
-        links: links,
-        counts: k,
+        arena,
         limit: query.limit,
         allowed: query.allowed,
         farthest: w,
@@ -134,45 +129,31 @@ pub fn source_alone(s: Point) -> Table
     ensures is { table_tree result ≡ begun s }
     ensures tabled { Tabled result }
 {
-    let mut xs = [0i32; 1];
-    let mut ys = [0i32; 1];
-    let ks = [0i32; 1];
-    plan(&mut xs[..0], &mut ys[..0], &ks[..0], s, Mode::Simple)
+    plan(&mut [], &mut [], &[], s, Mode::Simple)
 }
 
-// The columns of the tree of a job that was accepted.
-fn planned(j: RoutingJob) -> Table
+// The tree of a job that was accepted.
+fn planned(mut j: RoutingJob) -> Table
     requires { Sound j }
     ensures is { table_tree result ≡ tree_for (unpacked j) }
     ensures tabled { Tabled result }
 {
-    let mut xs = j.terminal_xs;
-    let mut ys = j.terminal_ys;
-    let ks = j.keepouts;
     let t = j.terminal_count;
     let k = tree::KEEPOUT_BOUNDS * j.keepout_count;
-    let s = j.source;
-    let mode = j.mode;
-    plan(&mut xs[..t], &mut ys[..t], &ks[..k], s, mode)
+    plan(
+        &mut j.terminal_xs[..t],
+        &mut j.terminal_ys[..t],
+        &j.keepouts[..k],
+        j.source,
+        j.mode,
+    )
 }
 
-// What a job's bytes get: the job's answer, and the columns of its tree; beside a refusal stand those of a source at (0, 0).
-#[derive(Clone, Copy)]
-pub struct RoutedTable {
-    pub answer: ReadAnswer,
-    pub table: Table,
-}
-
-// Beside a refusal stands a job of nothing, whose tree is that source alone: so the job is routed, whatever the answer.
-pub fn route_table(bytes: &[u8]) -> RoutedTable
-    ensures { Tables (route_of bytes.now) result }
+// What a job's bytes get: the refusal, or the job's tree.
+pub fn route_table(bytes: &[u8]) -> Result<Table, Refusal>
+    ensures is { routing_in result ≡ route_of bytes.now }
+    ensures tabled { IfOk result Tabled }
 {
-    let reading = job::read_job(bytes);
-    let answer = reading.answer;
-    let j = reading.job;
-    let t = planned(j);
-    RoutedTable {
-        answer: answer,
-        table: t,
-    }
+    let job = job::read_job(bytes)?;
+    Ok(planned(job))
 }

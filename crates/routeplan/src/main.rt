@@ -4,9 +4,6 @@
 ghost use Rattle.std.specs.Prelude.{◌≡◌, length};
 ghost use Rattle.routeplan.specs.Input.{most_read};
 
-use output::Answer;
-use streams::Input;
-
 // More than the longest job has (32 + 8 · 120 + 16 · 64 = 2016 bytes): a longer file, cut here, gives what it would give whole
 // (`enough` in proofs/Enough.antt).
 const MOST_READ: usize = 2048;
@@ -21,7 +18,7 @@ fn input_buffer() -> [u8; MOST_READ]
 fn write_plan(rt: &HostRuntime, job: &[u8]) -> std::io::Result<()> {
     let mut out = planning::output_buffer();
     let answer = planning::plan(job, &mut out);
-    if let Answer::Wrote(n) = answer {
+    if let Ok(n) = answer {
         return rt.write_all(&out[..n]);
     }
     Ok(())
@@ -30,9 +27,8 @@ fn write_plan(rt: &HostRuntime, job: &[u8]) -> std::io::Result<()> {
 // Where standard input cannot be read, it says so on standard error and writes nothing. It ends with 0 also after a refusal: the output tells.
 fn main(rt: HostRuntime) -> std::io::Result<()> {
     let mut buf = input_buffer();
-    let input = streams::read_input(&mut rt.reader(), &mut buf);
-    match input {
-        Input::Read(n) => write_plan(&rt, &buf[..n]),
-        Input::Failed => rt.stderr().write_all(b"standard input cannot be read\n"),
+    match streams::read_input(&mut rt.reader(), &mut buf) {
+        Ok(n) => write_plan(&rt, &buf[..n]),
+        Err(_) => rt.stderr().write_all(b"standard input cannot be read\n"),
     }
 }

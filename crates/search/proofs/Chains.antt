@@ -8,8 +8,11 @@ use native.Mathlib.Numerals.{add-one}
 use lib.ListN.{length, get_or, set}
 use lib.Dec.{eqb}
 use lib.Seq.{get_or-set_same, get_or-set_other}
-use borrow.Author.Tests.{eq-eqb, ne_eqb}
+use borrow.Author.Tests.{eq-eqb, ne_eqb, eqb-true}
 use Rattle.tree.specs.Limits.{no_node}
+use Rattle.std.specs.Prelude.{Option, None, Some}
+use Rattle.tree.specs.declared.NodeIndex.{NodeIndex}
+use Rattle.search.specs.Walk.{node_index, index_from, link_in}
 use Rattle.search.specs.Columns.{chain, Chain, Chained, stack_of, chain_of}
 
 -- ---- the stack
@@ -73,3 +76,22 @@ module _ (prev : List ℕ) (c : ℕ) (few : length prev ≤ no_node) where
       by : (k : ℕ) → chain_of k prev c ≡ []
       by zero = refl
       by (suc k) = rw (eq-eqb c no_node e)
+
+-- ---- a link that is read
+pub link_from : (n : ℕ) → link_in (index_from n) ≡ n
+link_from n = by (eqb n no_node) refl
+  where
+    by : (t : Bool) → eqb n no_node ≡ t → link_in (cond t None (Some (node_index n))) ≡ n
+    by true e = sym (eqb-true n no_node e)
+    by false e = refl
+
+pub link : {p : Option NodeIndex} (n : ℕ) → p ≡ index_from n → link_in p ≡ n
+link n e = ap link_in e ∙ link_from n
+
+-- it is what was read, also where only the node is at hand
+pub reads : {p : Option NodeIndex} (n : ℕ) → p ≡ index_from n → p ≡ index_from (link_in p)
+reads n e = e ∙ ap index_from (sym (ap link_in e ∙ link_from n))
+
+-- a node that is read is no missing one
+pub is_node : {c : NodeIndex} → Some c ≡ index_from c.0 → c.0 ≡ no_node → ⊥
+is_node {c} e h = let f : Some c ≡ None = rw (eq-eqb c.0 no_node h) at e in cc

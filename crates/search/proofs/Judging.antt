@@ -12,12 +12,13 @@ use mir.Val.{to_z, of_z}
 use mir.ValLaws.{to_z-of_z}
 use Rattle.geometry.specs.declared.Point.{Point}
 use Rattle.geometry.specs.Geometry.{dist}
-use Rattle.geometry.specs.Signed.{In32, and_left, and_right}
+use Rattle.std.specs.Cmp.{first_so, second_so}
+use Rattle.geometry.specs.Signed.{In32}
 use Rattle.search.specs.declared.Join.{Join}
 use Rattle.search.specs.declared.Best.{Best}
 use Rattle.search.specs.declared.Query.{Query}
 use Rattle.search.specs.declared.NodeView.{NodeView}
-use Rattle.search.specs.Branch.{judge, take_it, join_at, run_to, either}
+use Rattle.search.specs.Branch.{judge, take_it, join_at, run_to}
 use Rattle.search.specs.Thin.{is_past, untaken, judged_at}
 
 -- ---- L ≤ allowed
@@ -39,7 +40,7 @@ pub record Found (b : Best) (d : ℕ) : Type 0 where
   pub near : b.best ≤ d
 
 pub found : (b : Best) (d : ℕ) → is_past b d ≡ true → Found b d
-found b d e = record { within = and_left b.within (leb b.best d) e; near = leb-true _ _ (and_right b.within (leb b.best d) e) }
+found b d e = record { within = first_so b.within (leb b.best d) e; near = leb-true _ _ (second_so b.within (leb b.best d) e) }
 
 -- then a branch at d or farther is not taken
 pub takes_none : (w : Bool) (D L limit d : ℕ) (b : Best) → Found b d → d ≤ D → take_it w D L limit b ≡ false
@@ -59,7 +60,7 @@ module _ (a : Query) (P C : NodeView) (n : Point) (b : Best) (d e : ℕ) (w t : 
   is_taken_lem : take_it (le_z (pos (run_to a.point P n)) a.allowed) (dist n a.point) (run_to a.point P n) a.limit b ≡ t
   is_taken_lem = (λ i. take_it (is_within i) (sym hd i) (is_path i) a.limit b) ∙ sym ht
 
-  judge-yes : (j : Join) (v : Bool) → t ≡ true → j ≡ join_at n P C → v ≡ either w b.within → record { join = j; best = d; within = v } ≡ judge a P C n b
+  judge-yes : (j : Join) (v : Bool) → t ≡ true → j ≡ join_at n P C → v ≡ w || b.within → record { join = j; best = d; within = v } ≡ judge a P C n b
   unfolding judge
   judge-yes j v et ej ev = rw (is_taken_lem, et) (λ i. record { join = ej i; best = hd i; within = (ev ∙ ap (λ (x : Bool). x || b.within) (sym is_within)) i })
 
@@ -67,7 +68,7 @@ module _ (a : Query) (P C : NodeView) (n : Point) (b : Best) (d e : ℕ) (w t : 
   unfolding judge
   judge_no et = rw (is_taken_lem, et)
 
-  pub judged-yes : (j : Join) (v : Bool) → t ≡ true → j ≡ join_at n P C → v ≡ either w b.within
+  pub judged-yes : (j : Join) (v : Bool) → t ≡ true → j ≡ join_at n P C → v ≡ w || b.within
       → record { near = n; found = record { join = j; best = d; within = v }; taken = true } ≡ judged_at a P C b n
   judged-yes j v et ej ev = λ i. record { near = n; found = judge-yes j v et ej ev i; taken = (sym et ∙ sym is_taken_lem) i }
 

@@ -2,7 +2,7 @@
 use Prim.Native.Nat.{ℕ, ◌+◌, ◌*◌, ◌≤◌, ◌<◌}
 use mathlib.Core.Path.{◌≡◌, refl, ap, sym, ◌∙◌}
 use mathlib.Core.Bool.{Bool, true, false, ◌||◌}
-use mathlib.Core.List.{List, [], ◌∷◌}
+use mathlib.Core.List.{List, [], ◌∷◌, ◌++◌}
 use native.Mathlib.Omega.{arith}
 use native.Mathlib.Numerals.{add-one}
 use lib.ListN.{length, get_or, drop, length-drop}
@@ -64,8 +64,8 @@ pub stops_is : (k : Rectangle) (n q P C : Point) → stops_by k n (box n q) (box
 unfolding stops stops_by
 stops_is k n q P C = refl
 
-pub beside-not : (k : Rectangle) (n q P C : Point) → beside_of k n ≡ false → false ≡ stops q P C n k
-beside-not k n q P C e = by (inside k.xcoord n.xcoord) (inside k.ycoord n.ycoord) refl refl e
+pub beside_not : (k : Rectangle) (n q P C : Point) → beside_of k n ≡ false → false ≡ stops q P C n k
+beside_not k n q P C e = by (inside k.xcoord n.xcoord) (inside k.ycoord n.ycoord) refl refl e
   where
     by : (s t : Bool) → inside k.xcoord n.xcoord ≡ s → inside k.ycoord n.ycoord ≡ t → (s || t) ≡ false → false ≡ stops q P C n k
     by true t ex ey h = no_way (sym h)
@@ -117,6 +117,37 @@ module _ (f : Rectangle → Bool) (l : List ℤ) (i : ℕ) where
 
     pub scan_next : r ≡ false → any_of f (keepouts_of (drop (i + 4) l)) ≡ any_of f (keepouts_of l)
     scan_next e = sym (turn ∙ ap (λ (x : Bool). x || any_of f (keepouts_of (drop (i + 4) l))) e)
+
+-- ---- in chunks of four numbers
+keepouts-front : (x r : List ℤ) → length x ≡ 4 → keepouts_of (x ++ r) ≡ keepout_at x 0 ∷ keepouts_of r
+unfolding keepouts_of
+keepouts-front (a ∷ b ∷ c ∷ d ∷ []) r h = refl
+keepouts-front [] r h = absurd (omega arith)
+keepouts-front (a ∷ []) r h = absurd (omega arith)
+keepouts-front (a ∷ b ∷ []) r h = absurd (omega arith)
+keepouts-front (a ∷ b ∷ c ∷ []) r h = absurd (omega arith)
+keepouts-front (a ∷ b ∷ c ∷ d ∷ e ∷ y) r h = absurd (omega arith)
+
+-- the chunks are of four numbers, and those that are left decide
+pub record Left (f : Rectangle → Bool) (l : List ℤ) (size : ℕ) (rest : List ℤ) : Type 0 where
+  pub four : size ≡ 4
+  pub is : any_of f (keepouts_of rest) ≡ any_of f (keepouts_of l)
+
+module _ {f : Rectangle → Bool} {l : List ℤ} {size : ℕ} {rest : List ℤ} (v : Left f l size rest) where
+  pub left_none : length rest < size → false ≡ any_of f (keepouts_of l)
+  unfolding any_of
+  left_none h = ap (any_of f) (sym (keepouts-short rest (omega (arith, v.four)))) ∙ v.is
+
+  module _ (x rest' : List ℤ) (e : rest ≡ x ++ rest') (h : length x ≡ size) {k : Rectangle} {r : Bool} (ek : k ≡ keepout_at x 0) (er : r ≡ f k) where
+    one : (r || any_of f (keepouts_of rest')) ≡ any_of f (keepouts_of l)
+    unfolding any_of
+    one = ap (λ (y : Bool). y || any_of f (keepouts_of rest')) (er ∙ ap f ek) ∙ ap (any_of f) (sym (ap keepouts_of e ∙ keepouts-front x rest' (h ∙ v.four))) ∙ v.is
+
+    pub left_hit : r ≡ true → true ≡ any_of f (keepouts_of l)
+    left_hit t = rw t at one
+
+    pub left_next : r ≡ false → {size' : ℕ} → size' ≡ size → Left f l size' rest'
+    left_next t s = record { four = s ∙ v.four; is = rw t at one }
 
 -- how many there are: a whole number of four
 pub keepouts-length : (l : List ℤ) → (4 * length (keepouts_of l) ≤ length l) × (length l < 4 * length (keepouts_of l) + 4)

@@ -5,6 +5,7 @@ pub mod ChildTurns
 pub mod Thinning
 pub mod Leaves
 pub mod WalkTurns
+pub mod Popping
 pub mod Distinct
 pub mod Forest
 pub mod TreeWalk

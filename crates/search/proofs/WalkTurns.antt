@@ -37,9 +37,10 @@ module _ (ks : List Rectangle) (a : Query) (view : ℕ → NodeView) (children :
     pub counts : m + looks ks a view children turns plain found ≡ looks ks a view children fuel (0 ∷ []) b
     pub few : m + left * 65535 ≤ fuel * 65535
 
-  pub begins : (st : List ℕ) (found : Best) → length st ≡ room → 0 < room → found ≡ b → Safe ks a view children n room fuel (0 ∷ []) b → Round (set st 0 0) found 1 0 fuel
+  pub begins : (st : List ℕ) (found : Best) → length st ≡ room → 0 < room → found ≡ b → Safe ks a view children n room fuel (0 ∷ []) b
+      → {left : ℕ} → left ≡ fuel → Round (set st 0 0) found 1 0 left
   unfolding stack_of
-  begins st found e h eb s =
+  begins st found e h eb s el =
       let top : stack_of (set st 0 0) 1 ≡ 0 ∷ [] = stack_push st 0 0 (omega arith) in
       record {
         turns = fuel;
@@ -101,6 +102,13 @@ module _ (ks : List Rectangle) (a : Query) (view : ℕ → NodeView) (children :
     finishes st found zero m left r h =
         (sym (all_still ks a view children n Still v r.turns r.plain found r.thin) ∙ r.is, omega (arith, r.counts, all-leaves ks a view children n r.turns r.plain found r.thin))
     finishes st found (suc top) m left r h = absurd (omega arith)
+
+    -- so too where no turn is left
+    pub runs-out : (st : List ℕ) (found : Best) (top m left : ℕ) → Round st found top m left → left ≤ 0 → (found ≡ walk ks a view children fuel (0 ∷ []) b) × (m ≡ looks ks a view children fuel (0 ∷ []) b)
+    unfolding walk looks
+    runs-out st found top m left r h =
+        let z : r.turns ≡ 0 = omega (arith, r.enough) in
+        (sym (ap (λ (k : ℕ). walk ks a view children k r.plain found) z) ∙ r.is, omega (arith, r.counts, ap (λ (k : ℕ). looks ks a view children k r.plain found) z))
 
     module _ (wanted : Best → ℕ → Bool) (idle : (b : Best) (c : ℕ) → c < n → wanted b c ≡ false → Still b c) (below : (p c : ℕ) → p < n → Has c (children p) → c < n)
         (st : List ℕ) (found : Best) (top m left : ℕ) (r : Round st found top m left) (h : 0 < top) where

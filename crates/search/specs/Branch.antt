@@ -28,9 +28,6 @@ keepout_at l i =
     record { xcoord = record { lb = get_or l i (pos 0); ub = get_or l (i + 1) (pos 0) }; ycoord = record { lb = get_or l (i + 2) (pos 0); ub = get_or l (i + 3) (pos 0) } }
 
 -- ---- one branch
-abbrev pub either : Bool → Bool → Bool
-either a b = a || b
-
 abbrev pub join_at : Point → NodeView → NodeView → Join
 join_at n P C = cond (same n P.point) (Onto P.node) (cond (same n C.point) (Onto C.node) (Split P.node C.node))
 

@@ -5,6 +5,8 @@ use Rattle.tree.specs.Limits.{longest_path, reach, no_node}
 use Rattle.search.specs.declared.Join.{Join}
 use Rattle.search.specs.declared.Found.{Found}
 use Rattle.search.specs.declared.Query.{Query}
+use Rattle.search.specs.declared.NodeColumns.{NodeColumns}
+use Rattle.search.specs.declared.LinkColumns.{LinkColumns}
 use Rattle.search.specs.Walk.{view_at, walk, looks, Safe, start}
 use Rattle.tree.specs.Memory.{point_at, keepouts_of}
 
@@ -77,3 +79,19 @@ looks_on n a xs ys path last prev ks = looks (keepouts_of ks) a (view_at xs ys p
 pub record FoundOn (n : ℕ) (a : Query) (xs ys : List ℤ) (path last prev : List ℕ) (ks : List ℤ) (r : Found) : Type 0 where
   pub join : r.join ≡ found_on n a xs ys path last prev ks
   pub looks : r.looks ≡ looks_on n a xs ys path last prev ks
+
+-- ---- the same of lent columns
+abbrev pub ReachIn : NodeColumns → ℕ → Type 0
+ReachIn v = InReach v.xs.now v.ys.now v.path.now
+
+abbrev pub children_in : LinkColumns → ℕ → List ℕ
+children_in l = children_of l.last.now l.prev.now
+
+abbrev pub TreeIn : ℕ → Query → NodeColumns → LinkColumns → Type 0
+TreeIn n a v l = TreeColumns n a v.xs.now v.ys.now v.path.now l.last.now l.prev.now
+
+abbrev pub SafeIn : ℕ → ℕ → Query → NodeColumns → LinkColumns → List ℤ → Type 0
+SafeIn room n a v l = SafeOn room n a v.xs.now v.ys.now v.path.now l.last.now l.prev.now
+
+abbrev pub FoundIn : ℕ → Query → NodeColumns → LinkColumns → List ℤ → Found → Type 0
+FoundIn n a v l = FoundOn n a v.xs.now v.ys.now v.path.now l.last.now l.prev.now

@@ -8,6 +8,8 @@ use Rattle.search.specs.declared.Join.{Join}
 use Rattle.search.specs.declared.Join.TheVariants.{Onto, Split}
 use Rattle.search.specs.declared.Found.{Found}
 use Rattle.search.specs.declared.Query.{Query}
+use Rattle.search.specs.declared.NodeColumns.{NodeColumns}
+use Rattle.search.specs.declared.LinkColumns.{LinkColumns}
 use Rattle.tree.specs.Memory.{point_at, keepouts_of}
 use Rattle.search.specs.Columns.{Chain, Has, Distinct}
 
@@ -62,3 +64,10 @@ pub record Answers (ns : List Node) (a : Query) (ks : List ℤ) (r : Found) : Ty
 
 abbrev pub Joins : ℕ → Query → List ℤ → List ℤ → List ℕ → List ℕ → List ℕ → List ℤ → Found → Type 0
 Joins n a xs ys path last prev ks r = (ns : List Node) → length ns ≡ n → Walkable ns → Kept ns xs ys path last prev → Answers ns a ks r
+
+-- ---- the same of lent columns
+abbrev pub ReadyIn : ℕ → Query → NodeColumns → LinkColumns → Type 0
+ReadyIn n a v l = Ready n a v.xs.now v.ys.now v.path.now l.last.now l.prev.now
+
+abbrev pub JoinsIn : ℕ → Query → NodeColumns → LinkColumns → List ℤ → Found → Type 0
+JoinsIn n a v l = Joins n a v.xs.now v.ys.now v.path.now l.last.now l.prev.now

@@ -8,11 +8,13 @@ use Rattle.tree.specs.Search.{nearest_on, blocked}
 use Rattle.search.specs.declared.Best.{Best}
 use Rattle.search.specs.declared.Query.{Query}
 use Rattle.search.specs.declared.NodeView.{NodeView}
+use Rattle.search.specs.declared.NodeColumns.{NodeColumns}
+use Rattle.search.specs.declared.LinkColumns.{LinkColumns}
 use Rattle.search.specs.declared.Judged.{Judged}
 use Rattle.search.specs.declared.Examined.{Examined}
 use Rattle.search.specs.Branch.{is_taken, judge, Near}
 use Rattle.search.specs.Walk.{Walk, view_at, after_branch}
-use Rattle.search.specs.Columns.{Has, InReach, stack_of}
+use Rattle.search.specs.Columns.{Has, InReach, stack_of, children_in}
 
 -- ---- one branch
 -- a branch within the allowance was found, no farther than d
@@ -67,3 +69,11 @@ pub record Child (a : Query) (P : NodeView) (xs ys : List ℤ) (path last : List
 pub record NearChildren (a : Query) (P : NodeView) (xs ys : List ℤ) (path last prev : List ℕ) (cs : List ℕ) : Type 0 where
   pub few : length prev ≤ no_node
   pub each : (c : ℕ) → Has c cs → Child a P xs ys path last c
+
+-- ---- the same of lent columns
+abbrev pub ChildIn : Query → NodeView → NodeColumns → LinkColumns → ℕ → Type 0
+ChildIn a P v l = Child a P v.xs.now v.ys.now v.path.now l.last.now
+
+-- P's children are near
+abbrev pub NearIn : Query → NodeView → NodeColumns → LinkColumns → Type 0
+NearIn a P v l = NearChildren a P v.xs.now v.ys.now v.path.now l.last.now l.prev.now (children_in l P.node.0)

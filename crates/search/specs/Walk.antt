@@ -1,24 +1,37 @@
 -- The walk over the nodes: what it reads of a node, its stack, and when it is safe.
 use Prim.Native.Nat.{ℕ, zero, suc, ◌+◌, ◌≤◌, ◌<◌, max}
-use Rattle.std.specs.Prelude.{◌≡◌, false, cond, get_or, ℤ}
+use Rattle.std.specs.Prelude.{◌≡◌, false, cond, get_or, eqb, Option, None, Some, ℤ}
 use mathlib.Core.List.{List, [], ◌∷◌}
 use Rattle.std.proofs.Math.ListN.{length}
 use Rattle.geometry.specs.declared.Rectangle.{Rectangle}
 use Rattle.tree.specs.declared.NodeIndex.{NodeIndex}
+use Rattle.tree.specs.Limits.{no_node}
 use Rattle.tree.specs.Memory.{point_at}
 use Rattle.search.specs.declared.Join.TheVariants.{Onto}
 use Rattle.search.specs.declared.Best.{Best}
 use Rattle.search.specs.declared.Query.{Query}
 use Rattle.search.specs.declared.NodeView.{NodeView}
 use Rattle.search.specs.declared.Examined.{Examined}
+use Rattle.search.specs.declared.NodeColumns.{NodeColumns}
 use Rattle.search.specs.Branch.{examine_branch}
 
 -- ---- columns
 abbrev pub node_index : ℕ → NodeIndex
 node_index i = record { 0 = i }
 
+-- the node that a column's number names, and the number for it
+abbrev pub index_from : ℕ → Option NodeIndex
+index_from i = cond (eqb i no_node) None (Some (node_index i))
+
+abbrev pub link_in : Option NodeIndex → ℕ
+link_in None = no_node
+link_in (Some i) = i.0
+
 abbrev pub view_at : List ℤ → List ℤ → List ℕ → ℕ → NodeView
 view_at xs ys path i = record { node = node_index i; point = point_at xs ys i; path = get_or path i 0 }
+
+abbrev pub view_in : NodeColumns → ℕ → NodeView
+view_in v = view_at v.xs.now v.ys.now v.path.now
 
 -- ---- the walk
 pub record Walk : Type 0 where

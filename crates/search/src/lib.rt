@@ -2,18 +2,18 @@
 // and two of links, from a node to its last child and from a child to the one before it.
 #![tactic(auto)]
 
-ghost use Rattle.std.specs.Prelude.{◌≡◌, ◌+◌, ◌<◌, ◌≤◌, max, pos, length};
+ghost use Rattle.std.specs.Prelude.{◌≡◌, ◌+◌, ◌<◌, ◌≤◌, pos, length, get_or};
 ghost use Rattle.std.specs.Int.Signed.{le_z};
 ghost use Rattle.tree.specs.Limits.{reach};
 ghost use Rattle.geometry.specs.Laws.{Within};
 ghost use Rattle.geometry.specs.Geometry.{dist};
 ghost use Rattle.tree.specs.Search.{nearest_on, stops, blocked};
 ghost use Rattle.tree.specs.Memory.{keepouts_of};
-ghost use Rattle.search.specs.Branch.{take_it, join_at, keepout_at, stops_by, beside_of, Near, either};
-ghost use Rattle.search.specs.Walk.{view_at};
-ghost use Rattle.search.specs.Columns.{InReach, Chained, chain, TreeColumns, SafeOn, FoundOn};
-ghost use Rattle.search.specs.Thin.{is_past, untaken, judged_at, judged, settled, is_wanted, thin_branch, Child, NearChildren, Pushes};
-ghost use Rattle.search.specs.Find.{Ready, Joins};
+ghost use Rattle.search.specs.Branch.{take_it, join_at, keepout_at, stops_by, beside_of, Near};
+ghost use Rattle.search.specs.Walk.{view_in, index_from};
+ghost use Rattle.search.specs.Columns.{ReachIn, Chained, children_in, TreeIn, SafeIn, FoundIn};
+ghost use Rattle.search.specs.Thin.{is_past, untaken, judged_at, judged, settled, is_wanted, thin_branch, ChildIn, NearIn, Pushes};
+ghost use Rattle.search.specs.Find.{ReadyIn, JoinsIn};
 
 use geometry::{Interval, Point, Rectangle};
 use tree::NodeIndex;
@@ -26,6 +26,7 @@ pub enum Join {
 }
 
 // What the search has found so far: the place, its distance, and whether a branch has had L ≤ allowed.
+// Place and distance are there either way, so an enum of two cases would have both twice; `taken` and `pushed` below likewise.
 #[derive(Clone, Copy)]
 pub struct Best {
     pub join: Join,
@@ -39,6 +40,21 @@ pub struct Query {
     pub point: Point,
     pub limit: u32,
     pub allowed: i32,
+}
+
+// What the search reads of nodes: a column for each coordinate, and one for path lengths.
+#[derive(Clone, Copy)]
+pub struct NodeColumns<'a> {
+    pub xs: &'a [i32],
+    pub ys: &'a [i32],
+    pub path: &'a [u32],
+}
+
+// What it reads of their links: a column from a node to its last child, and one from a child to the one before it.
+#[derive(Clone, Copy)]
+pub struct LinkColumns<'a> {
+    pub last: &'a [u16],
+    pub prev: &'a [u16],
 }
 
 // A node with what the search reads of it.
@@ -98,70 +114,47 @@ pub fn nearest_on(p: Point, c: Point, q: Point) -> Point
 
 // ---- one branch
 
-// L ≤ allowed
-fn is_allowed(l: u32, query: Query) -> bool
-    ensures { result ≡ le_z (pos l) query.allowed }
-{
-    if query.allowed < 0 {
-        return false;
+impl Query {
+    // L ≤ allowed
+    fn allows(self, l: u32) -> bool
+        ensures { result ≡ le_z (pos l) self.allowed }
+    {
+        self.allowed >= 0 && l <= self.allowed as u32
     }
-    let a = query.allowed as u32;
-    l <= a
 }
 
-// The take rule; w says L ≤ allowed.
-fn takes(w: bool, d: u32, l: u32, limit: u32, b: Best) -> bool
-    ensures { result ≡ take_it w d l limit b }
-{
-    if w {
-        if b.within {
-            return d < b.best;
+impl Best {
+    // The take rule; w says L ≤ allowed.
+    fn takes(self, w: bool, d: u32, l: u32, limit: u32) -> bool
+        ensures { result ≡ take_it w d l limit self }
+    {
+        if w {
+            !self.within || d < self.best
+        } else {
+            !self.within && l <= limit && d < self.best
         }
-        return true;
     }
-    if b.within {
-        return false;
+
+    // Whether no branch at d or farther is taken: one within the allowance was found, no farther than d. `&`, as here, takes no branch where both are at hand.
+    fn is_past(self, d: u32) -> bool
+        ensures { result ≡ is_past self d }
+    {
+        self.within & (self.best <= d)
     }
-    if l <= limit {
-        return d < b.best;
-    }
-    false
 }
 
 // Where the point joins on the branch whose nearest point is n.
+#[tactic(auto, using(geometry::specs::Signed::same_is))]
 pub fn join_at(n: Point, at: NodeView, to: NodeView) -> Join
     ensures { result ≡ join_at n at to }
 {
-    let p = at.point;
-    let i = at.node;
-    if n.same(p) {
-        return Join::Onto(i);
+    if n == at.point {
+        Join::Onto(at.node)
+    } else if n == to.point {
+        Join::Onto(to.node)
+    } else {
+        Join::Split(at.node, to.node)
     }
-    let c = to.point;
-    let j = to.node;
-    if n.same(c) {
-        return Join::Onto(j);
-    }
-    Join::Split(i, j)
-}
-
-// a || b, of two values that are at hand.
-fn either(a: bool, b: bool) -> bool
-    ensures { result ≡ either a b }
-{
-    if a {
-        return true;
-    }
-    b
-}
-
-// Whether no branch at d or farther is taken: one within the allowance was found, no farther than d.
-fn is_past(b: Best, d: u64) -> bool
-    ensures { result ≡ is_past b d }
-{
-    let best = b.best as u64;
-    let past = best <= d;
-    if b.within { past } else { false }
 }
 
 // A branch that is not taken.
@@ -184,22 +177,20 @@ fn judge_at(query: Query, at: NodeView, to: NodeView, n: Point, d: u32, b: Best)
 {
     let e = distance(at.point, n);
     let l = at.path + e + d;
-    let w = is_allowed(l, query);
-    if takes(w, d, l, query.limit, b) {
-        let j = join_at(n, at, to);
-        let v = either(w, b.within);
-        let f = Best {
-            join: j,
-            best: d,
-            within: v,
-        };
-        return Judged {
-            near: n,
-            found: f,
-            taken: true,
-        };
+    let w = query.allows(l);
+    if !b.takes(w, d, l, query.limit) {
+        return untaken(n, b);
     }
-    untaken(n, b)
+    let found = Best {
+        join: join_at(n, at, to),
+        best: d,
+        within: w | b.within,
+    };
+    Judged {
+        near: n,
+        found,
+        taken: true,
+    }
 }
 
 // The same. Most branches are past what was found, and need no more than D.
@@ -209,7 +200,7 @@ fn judge(query: Query, at: NodeView, to: NodeView, b: Best) -> Judged
 {
     let n = nearest_on(at.point, to.point, query.point);
     let d = distance(n, query.point);
-    if is_past(b, d as u64) {
+    if b.is_past(d) {
         return untaken(n, b);
     }
     judge_at(query, at, to, n, d, b)
@@ -218,43 +209,26 @@ fn judge(query: Query, at: NodeView, to: NodeView, b: Best) -> Judged
 // ---- keepouts
 
 // One keepout against the nearest point n and the boxes of n with the point, P and C.
+#[tactic(auto, unfolding(crate::specs::Branch::stops_by))]
 fn stops(k: Rectangle, n: Point, a: Rectangle, b: Rectangle, c: Rectangle) -> bool
     ensures { result ≡ stops_by k n a b c }
 {
-    if k.contains(n) {
-        return true;
-    }
-    if k.blocks(a) {
-        return true;
-    }
-    if k.blocks(b) {
-        return true;
-    }
-    k.blocks(c)
+    k.contains(n) || k.blocks(a) || k.blocks(b) || k.blocks(c)
 }
 
 // Whether an interval of k has n's coordinate. Where neither has, k stops no branch: each box has n. Most keepouts are told by this.
 fn is_beside(k: Rectangle, n: Point) -> bool
     ensures { result ≡ beside_of k n }
 {
-    let x = k.xcoord;
-    let y = k.ycoord;
-    let in_x = x.contains_value(n.xcoord);
-    let in_y = y.contains_value(n.ycoord);
-    if in_x { true } else { in_y }
+    k.xcoord.contains_value(n.xcoord) | k.ycoord.contains_value(n.ycoord)
 }
 
 // One keepout against the branch from p to c, whose nearest point to q is n.
+#[tactic(auto, using(crate::proofs::Keepouts::beside_not, crate::proofs::Keepouts::stops_is))]
 fn stops_branch(k: Rectangle, n: Point, q: Point, p: Point, c: Point) -> bool
     ensures { result ≡ stops q p c n k }
 {
-    if is_beside(k, n) {
-        let a = n.hull_with(q);
-        let e = n.hull_with(p);
-        let f = n.hull_with(c);
-        return stops(k, n, a, e, f);
-    }
-    false
+    is_beside(k, n) && stops(k, n, n.hull_with(q), n.hull_with(p), n.hull_with(c))
 }
 
 // The keepout whose four numbers start at i.
@@ -262,17 +236,15 @@ pub fn keepout_at(ks: &[i32], i: usize) -> Rectangle
     requires { i + 4 ≤ length ks.now }
     ensures { result ≡ keepout_at ks.now i }
 {
-    let x = Interval {
-        lb: ks[i],
-        ub: ks[i + 1],
-    };
-    let y = Interval {
-        lb: ks[i + 2],
-        ub: ks[i + 3],
-    };
     Rectangle {
-        xcoord: x,
-        ycoord: y,
+        xcoord: Interval {
+            lb: ks[i],
+            ub: ks[i + 1],
+        },
+        ycoord: Interval {
+            lb: ks[i + 2],
+            ub: ks[i + 3],
+        },
     }
 }
 
@@ -280,218 +252,179 @@ pub fn keepout_at(ks: &[i32], i: usize) -> Rectangle
 fn blocked(ks: &[i32], n: Point, q: Point, p: Point, c: Point) -> bool
     ensures { result ≡ blocked (keepouts_of ks.now) q p c n }
 {
-    let mut i: usize = 0;
-    while i + tree::KEEPOUT_BOUNDS <= ks.len() {
-        let k = keepout_at(ks, i);
-        if stops_branch(k, n, q, p, c) {
+    for k in ks.chunks_exact(tree::KEEPOUT_BOUNDS) {
+        if stops_branch(keepout_at(k, 0), n, q, p, c) {
             return true;
         }
-        i = i + tree::KEEPOUT_BOUNDS;
     }
     false
 }
 
-// The branch from `at` to its child `to`, judged. Keepouts are tested only where it is taken or its child's subtree is wanted.
-fn settle(
-    ks: &[i32],
-    query: Query,
-    at: NodeView,
-    to: NodeView,
-    b: Best,
-    j: Judged,
-    wanted: bool,
-) -> Examined
-    ensures { result ≡ settled (keepouts_of ks.now) query at to b j wanted }
-{
-    if either(j.taken, wanted) {
-        if blocked(ks, j.near, query.point, at.point, to.point) {
-            return Examined {
-                found: b,
-                pushed: false,
-            };
-        }
-        let g = j.found;
-        return Examined {
-            found: g,
-            pushed: wanted,
-        };
-    }
-    Examined {
-        found: b,
-        pushed: false,
-    }
-}
-
 // ---- columns
 
-// A number of a column as an index.
-pub fn wide(x: u16) -> usize
-    ensures { result ≡ x }
-{
-    x as usize
-}
-
 // What the search reads of a node.
-pub fn view_at<'a>(xs: &'a [i32], ys: &'a [i32], path: &'a [u32], c: NodeIndex) -> NodeView
-    requires { InReach xs.now ys.now path.now c.0 }
-    ensures { result ≡ view_at xs.now ys.now path.now c.0 }
+pub fn view_at(nodes: NodeColumns, c: NodeIndex) -> NodeView
+    requires { ReachIn nodes c.0 }
+    ensures { result ≡ view_in nodes.entry c.0 }
 {
-    let i = wide(c.0);
-    let p = tree::point_at(xs, ys, i);
+    let i = usize::from(c);
     NodeView {
         node: c,
-        point: p,
-        path: path[i],
+        point: tree::point_at(nodes.xs, nodes.ys, i),
+        path: nodes.path[i],
     }
 }
 
-// Whether p is to be walked: it has children.
-fn is_wanted(p: u16, last: &[u16]) -> bool
-    requires { p < length last.now }
-    ensures { result ≡ is_wanted last.now p }
+// The node that a column's number names.
+fn index_of(n: u16) -> Option<NodeIndex>
+    ensures { result ≡ index_from n }
 {
-    let i = wide(p);
-    if last[i] == tree::NO_NODE {
-        return false;
+    if n == tree::NO_NODE {
+        return None;
     }
-    true
+    Some(NodeIndex(n))
 }
 
-// The branch to the child c.
-fn examine<'a>(
-    c: u16,
-    b: Best,
-    query: Query,
-    at: NodeView,
-    xs: &'a [i32],
-    ys: &'a [i32],
-    path: &'a [u32],
-    last: &'a [u16],
-    ks: &'a [i32],
-) -> Examined
-    requires { Child query at xs.now ys.now path.now last.now c }
-    ensures { result ≡ thin_branch (keepouts_of ks.now) query (view_at xs.now ys.now path.now) (λ b. is_wanted last.now) at c b }
-{
-    let to = view_at(xs, ys, path, NodeIndex(c));
-    let j = judge(query, at, to, b);
-    let wanted = is_wanted(c, last);
-    settle(ks, query, at, to, b, j, wanted)
+impl LinkColumns<'_> {
+    fn last_child(self, p: NodeIndex) -> Option<NodeIndex>
+        requires { p.0 < length self.last.now }
+        ensures { result ≡ index_from (get_or self.entry.last.now p.0 0) }
+    {
+        index_of(self.last[usize::from(p)])
+    }
+
+    // The child before c of the same node.
+    fn child_before(self, c: NodeIndex) -> Option<NodeIndex>
+        requires { c.0 < length self.prev.now }
+        ensures { result ≡ index_from (get_or self.entry.prev.now c.0 0) }
+    {
+        index_of(self.prev[usize::from(c)])
+    }
+
+    // Whether c is to be walked: it has children.
+    fn is_wanted(self, c: NodeIndex) -> bool
+        requires { c.0 < length self.last.now }
+        ensures { result ≡ is_wanted self.entry.last.now c.0 }
+    {
+        self.last_child(c).is_some()
+    }
 }
 
-// The branches to a node's children, from the last child to the first; each child whose branch is not blocked and whose subtree is wanted is pushed.
-fn examine_children<'a>(
-    stack: &mut [u16],
-    from: usize,
-    b: Best,
+// ---- the walk
+
+// A search: what is asked, the columns of the tree, and the keepouts' numbers.
+#[derive(Clone, Copy)]
+struct Search<'a> {
     query: Query,
-    at: NodeView,
-    first: u16,
-    xs: &'a [i32],
-    ys: &'a [i32],
-    path: &'a [u32],
-    last: &'a [u16],
-    prev: &'a [u16],
+    nodes: NodeColumns<'a>,
+    links: LinkColumns<'a>,
     ks: &'a [i32],
-) -> Pushed
-    requires near_children { NearChildren query at xs.now ys.now path.now last.now prev.now (chain prev.now first) }
-    requires chained { Chained prev.now first }
-    requires first_in_bounds { from + length (chain prev.now first) ≤ length stack.old }
-    ensures { Pushes (keepouts_of ks.now) query (view_at xs.now ys.now path.now) (λ b. is_wanted last.now) at (chain prev.now first) b stack.old from result.found stack.new result.top result.looks }
-{
-    let mut found = b;
-    let mut top = from;
-    let mut looks: u32 = 0;
-    let mut c = first;
-    while c != tree::NO_NODE {
-        let step = examine(c, found, query, at, xs, ys, path, last, ks);
-        let f = step.found;
-        found = f;
-        if step.pushed {
-            stack[top] = c;
-            top = top + 1;
+}
+
+impl Search<'_> {
+    // The branch from `at` to its child `to`, judged. Keepouts are tested only where it is taken or its child's subtree is wanted.
+    fn settle(&self, at: NodeView, to: NodeView, b: Best, j: Judged, wanted: bool) -> Examined
+        ensures { result ≡ settled (keepouts_of self.now.ks.now) self.now.query at to b j wanted }
+    {
+        if (j.taken | wanted) && !blocked(self.ks, j.near, self.query.point, at.point, to.point) {
+            return Examined {
+                found: j.found,
+                pushed: wanted,
+            };
         }
-        let i = wide(c);
-        c = prev[i];
-        looks = looks + 1;
+        Examined {
+            found: b,
+            pushed: false,
+        }
     }
-    Pushed {
-        found: found,
-        top: top,
-        looks: looks,
-    }
-}
 
-// max(x, 1)
-fn at_least_one(x: u32) -> u32
-    ensures { result ≡ max x 1 }
-{
-    if x < 1 { 1 } else { x }
-}
-
-// The walk from the source, with a stack that is lent. It takes at most as many turns as there are nodes.
-fn walk<'a>(
-    stack: &mut [u16],
-    n: usize,
-    query: Query,
-    xs: &'a [i32],
-    ys: &'a [i32],
-    path: &'a [u32],
-    last: &'a [u16],
-    prev: &'a [u16],
-    ks: &'a [i32],
-) -> Found
-    requires tree_columns { TreeColumns n query xs.now ys.now path.now last.now prev.now }
-    requires stack_nonzero { 0 < length stack.old }
-    requires safe_on { SafeOn (length stack.old) n query xs.now ys.now path.now last.now prev.now ks.now }
-    ensures { FoundOn n query xs.now ys.now path.now last.now prev.now ks.now result }
-{
-    let m = at_least_one(query.limit);
-    let source = NodeIndex(0);
-    let mut found = Best {
-        join: Join::Onto(source),
-        best: m,
-        within: false,
-    };
-    stack[0] = 0;
-    let mut top: usize = 1;
-    let mut looks: u32 = 0;
-    let mut left = n;
-    while 0 < top {
-        top = top - 1;
-        let p = stack[top];
-        let at = view_at(xs, ys, path, NodeIndex(p));
-        let i = wide(p);
-        let first = last[i];
-        let r = examine_children(
-            stack, top, found, query, at, first, xs, ys, path, last, prev, ks,
-        );
-        let f = r.found;
-        found = f;
-        top = r.top;
-        looks = looks + r.looks;
-        left = left - 1;
+    // The branch to the child c.
+    fn examine(&self, c: NodeIndex, b: Best, at: NodeView) -> Examined
+        requires { ChildIn self.now.query at self.now.nodes self.now.links c.0 }
+        ensures { result ≡ thin_branch (keepouts_of self.now.ks.now) self.now.query (view_in self.now.nodes) (λ b. is_wanted self.now.links.last.now) at c.0 b }
+    {
+        let to = view_at(self.nodes, c);
+        let j = judge(self.query, at, to, b);
+        let wanted = self.links.is_wanted(c);
+        self.settle(at, to, b, j, wanted)
     }
-    let j = found.join;
-    Found {
-        join: j,
-        looks: looks,
+
+    // The branches to a node's children, from the last child to the first; each child whose branch is not blocked and whose subtree is wanted is pushed.
+    // The stack's height goes in and comes out by value, so that it can stay in a register.
+    fn examine_children(&self, stack: &mut [u16], from: usize, b: Best, at: NodeView) -> Pushed
+        requires in_links { (at.node.0 < length self.now.links.last.now) × (at.node.0 < length self.now.links.prev.now) }
+        requires near_children { NearIn self.now.query at self.now.nodes self.now.links }
+        requires chained { Chained self.now.links.prev.now (get_or self.now.links.last.now at.node.0 0) }
+        requires in_stack { from + length (children_in self.now.links at.node.0) ≤ length stack.old }
+        ensures { Pushes (keepouts_of self.now.ks.now) self.now.query (view_in self.now.nodes) (λ b. is_wanted self.now.links.last.now) at (children_in self.now.links at.node.0) b stack.old from result.found stack.new result.top result.looks }
+    {
+        let mut found = b;
+        let mut top = from;
+        let mut looks = 0u32;
+        let mut child = self.links.last_child(at.node);
+        while let Some(c) = child {
+            let step = self.examine(c, found, at);
+            found = step.found;
+            if step.pushed {
+                stack[top] = c.0;
+                top += 1;
+            }
+            child = self.links.child_before(c);
+            looks += 1;
+        }
+        Pushed { found, top, looks }
+    }
+
+    // The walk from the source, with a stack that is lent. It takes at most as many turns as there are nodes.
+    fn walk(&self, stack: &mut [u16], n: usize) -> Found
+        requires tree_columns { TreeIn n self.now.query self.now.nodes self.now.links }
+        requires stack_nonzero { 0 < length stack.old }
+        requires safe_on { SafeIn (length stack.old) n self.now.query self.now.nodes self.now.links self.now.ks.now }
+        ensures { FoundIn n self.now.query self.now.nodes self.now.links self.now.ks.now result }
+    {
+        let mut found = Best {
+            join: Join::Onto(NodeIndex(0)),
+            best: self.query.limit.max(1),
+            within: false,
+        };
+        stack[0] = 0;
+        let mut top = 1usize;
+        let mut looks = 0u32;
+        for _turn in 0..n {
+            if top == 0 {
+                break;
+            }
+            top -= 1;
+            let at = view_at(self.nodes, NodeIndex(stack[top]));
+            let r = self.examine_children(stack, top, found, at);
+            found = r.found;
+            top = r.top;
+            looks += r.looks;
+        }
+        Found {
+            join: found.join,
+            looks,
+        }
     }
 }
 
 // Where the search over a tree of n nodes has the point join.
-pub fn find_insertion_point<'a>(
+pub fn find_insertion_point(
     n: usize,
     query: Query,
-    xs: &'a [i32],
-    ys: &'a [i32],
-    path: &'a [u32],
-    last: &'a [u16],
-    prev: &'a [u16],
-    ks: &'a [i32],
+    nodes: NodeColumns,
+    links: LinkColumns,
+    ks: &[i32],
 ) -> Found
-    requires { Ready n query xs.now ys.now path.now last.now prev.now }
-    ensures { Joins n query xs.now ys.now path.now last.now prev.now ks.now result }
+    requires { ReadyIn n query nodes links }
+    ensures { JoinsIn n query nodes.entry links.entry ks.now result }
 {
     let mut stack = [0u16; tree::MOST_NODES];
-    walk(&mut stack, n, query, xs, ys, path, last, prev, ks)
+    let search = Search {
+        query,
+        nodes,
+        links,
+        ks,
+    };
+    search.walk(&mut stack, n)
 }

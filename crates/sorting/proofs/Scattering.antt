@@ -1,3 +1,4 @@
+-- The library sorts the keys, and the code no longer guesses an order. The laws stand.
 -- Keys that went to places which were free: the places hold the keys so far, each as often, and are free for the rest. So once all keys went, the
 -- places hold the same keys; and sorting depends only on how often each key stands there. Nothing is asked of which place a key goes to.
 use Prim.Native.Nat.{ℕ, zero, suc, ◌+◌, ◌-◌, ◌≤◌, ◌<◌}

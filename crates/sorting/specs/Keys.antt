@@ -1,5 +1,5 @@
--- A point's key: one number for its distance from the source, its x and its y, which orders as the three do in turn. And keys sorted.
-use Rattle.std.specs.Prelude.{ℕ, ◌+◌, ◌*◌, ◌/◌, ◌%◌, ◌<◌, ◌≡◌, Bool, false, cond, length, get_or, ltb, ℤ, pos, negsuc, ◌-ℤ◌}
+-- A point's key: one number for its distance from the source, its x and its y, which orders as the three do in turn. And lists of keys.
+use Rattle.std.specs.Prelude.{ℕ, ◌+◌, ◌*◌, ◌/◌, ◌%◌, ◌<◌, ◌≡◌, cond, length, get_or, ltb, ℤ, pos, negsuc, ◌-ℤ◌}
 use mathlib.Core.List.{List, [], ◌∷◌, foldr}
 use Rattle.tree.specs.Limits.{reach}
 use Rattle.tree.specs.Shape.{count}
@@ -33,10 +33,6 @@ pub record Read (keys : List ℕ) (n : ℕ) (px py : List ℤ) : Type 0 where
   pub each : (k : ℕ) → k < n → point_at px py k ≡ point_of (get_or keys k 0)
 
 -- ---- sorting
--- there is a key after j, and it is less than v
-abbrev pub passes_key : List ℕ → ℕ → ℕ → Bool
-passes_key keys j v = cond (ltb (j + 1) (length keys)) (ltb (get_or keys (j + 1) 0) v) false
-
 -- v in its place in a sorted list
 unfoldable pub place_key : ℕ → List ℕ → List ℕ
 place_key v [] = v ∷ []

@@ -1,16 +1,9 @@
--- One read after another: what the source loses, and what stands at the start of the buffer.
-use Rattle.std.proofs.Common.{◌≡◌, ℕ, ◌+◌, ◌≤◌, List, ◌++◌, Option, Some, None, length, take, refl, ap, sym, ◌∙◌, arith, append_assoc}
-use Rattle.std.specs.Io.KnownBytes.{Consumes}
+-- One read after another: what stands at the start of the buffer.
+use Rattle.std.proofs.Common.{◌≡◌, ℕ, ◌+◌, ◌≤◌, List, ◌++◌, length, take, refl, ap, sym, ◌∙◌, arith}
 use Rattle.std.proofs.Math.Seq.{take-append-add}
 use Rattle.std.proofs.lemmas.List.{length-take-le, take-take}
 use Rattle.std.proofs.lemmas.Slice.{take-put_mid}
 use borrow.Rule.Slice.PartMut.{put_mid}
-
-pub consumes_then : (a b c : Option (List ℕ)) (xs ys : List ℕ) → Consumes a b xs → Consumes b c ys → Consumes a c (xs ++ ys)
-consumes_then None b c xs ys h k = tt
-consumes_then (Some a) None c xs ys h k = absurd h
-consumes_then (Some a) (Some b) None xs ys h k = absurd k
-consumes_then (Some a) (Some b) (Some c) xs ys h k = h ∙ ap (λ z. xs ++ z) k ∙ sym (append_assoc xs ys c)
 
 -- the first bytes of a buffer whose part from n on was read to
 pub front_read : (n m k : ℕ) (buf part : List ℕ) → n ≤ length buf → k ≤ length part → take (n + k) (put_mid n m buf part) ≡ take n buf ++ take k part

@@ -1,4 +1,4 @@
--- From a step on lent buffers to a step of a table: a tree stands in the buffers of a table, and what stands there after the step is put together again.
+-- From a step on an arena to a step of a table: a tree stands in the table's arena, before the step and after it.
 use Prim.Native.Nat.{ℕ, ◌+◌, ◌≤◌}
 use mathlib.Core.Path.{◌≡◌, sym, ap, subst, ◌∙◌}
 use native.Mathlib.Omega.{arith}
@@ -9,7 +9,7 @@ use Rattle.tree.specs.Limits.{most_nodes, reach}
 use Rattle.tree.specs.Tree.{Tree}
 use Rattle.tree.specs.WellFormed.{WellFormed}
 use Rattle.joining.specs.Store.{nodes_of, SizedStore, Keeps}
-use Rattle.joining.specs.Standing.{Stores, Standing, Grows}
+use Rattle.joining.specs.Standing.{Stores, Standing, Grows, Became}
 use Rattle.joining.proofs.Reading.{nodes_are, backed_of, sized-columns}
 use Rattle.tables.specs.declared.Table.{Table}
 use Rattle.tables.specs.Table.{table_columns, table_links, table_store, table_tree, Tabled}
@@ -18,17 +18,17 @@ use Rattle.table_steps.specs.Steps.{Stepped}
 
 module _ {t : Table} (v : Tabled t) where
   -- ---- before
-  pub ready : (When : Tree → Type 0) (more : ℕ) (q : Point) → When (table_tree t) → t.counts.nodes + more ≤ most_nodes → Within reach q → Standing When more q t.counts (table_store t)
+  pub ready : (When : Tree → Type 0) (more : ℕ) (q : Point) → When (table_tree t) → t.arena.counts.nodes + more ≤ most_nodes → Within reach q → Standing When more q t.arena.counts (table_store t)
   ready When more q h room near =
       record { stands = stands v When h; room = omega (arith, room, v.sized.rows.xs); small = v.few; steiner = omega (arith, v.steiners); within = near }
 
   -- ---- after
   module _ (When : Tree → Type 0) (w : When (table_tree t)) (step : Tree → Tree) (f : WellFormed (step (table_tree t)))
       (low : length (step (table_tree t)).nodes ≤ most_nodes) (numbers : (step (table_tree t)).next_steiner ≤ most_nodes + 1) (r : Table)
-      (g : Grows When step t.counts (table_store t) r.counts (table_store r))
+      (g : Became (Grows When step) t.arena r.arena)
       (allowed : r.allowed ≡ (step (table_tree t)).allowed) (farthest : r.farthest ≡ (step (table_tree t)).farthest) (limit : r.limit ≡ (step (table_tree t)).limit)
       (same : (t.limit ≡ r.limit) × (t.farthest ≡ r.farthest)) where
-    s : Stores (step (table_tree t)) r.counts (table_store r)
+    s : Stores (step (table_tree t)) r.arena.counts (table_store r)
     s = g.stores (table_tree t) v.formed w (stores v)
 
     z : SizedStore most_nodes (table_store r)

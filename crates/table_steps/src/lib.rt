@@ -1,4 +1,4 @@
-// The steps of an edit, on a tree in buffers by value: its buffers are lent, and the tree is put together again.
+// The steps of an edit, on a table: its arena is lent to the crates that change a tree.
 #![tactic(auto)]
 
 ghost use Rattle.std.specs.Prelude.{◌≡◌, ◌<◌};
@@ -20,120 +20,37 @@ use tables::Table;
 use tree::{NodeIndex, NodeName};
 
 // A new node without children, last among those of p.
-pub fn with_leaf(t: Table, name: NodeName, q: Point, p: NodeIndex) -> Table
-    requires addable { Addable t (name_in name) q }
-    requires p_lt_nodes { (p.0 < t.counts.nodes) × Room t 1 (steiner_in (name_in name)) }
-    ensures { Stepped (λ x. attached x (name_in name) q p.0) t result }
+pub fn with_leaf(t: &mut Table, name: NodeName, q: Point, p: NodeIndex)
+    requires addable { Addable t.old (name_in name) q }
+    requires p_lt_nodes { (p.0 < t.old.arena.counts.nodes) × Room t.old 1 (steiner_in (name_in name)) }
+    ensures { Stepped (λ x. attached x (name_in name) q p.0) t.old t.new }
 {
-    let mut points = t.points;
-    let mut path = t.path;
-    let mut marks = t.marks;
-    let mut links = t.links;
-    let k = hand_inserts::insert_leaf(
-        &mut points,
-        &mut path,
-        &mut marks,
-        &mut links,
-        t.counts,
-        name,
-        q,
-        p,
-    );
-    Table {
-        points: points,
-        path: path,
-        marks: marks,
-        links: links,
-        counts: k,
-        limit: t.limit,
-        allowed: t.allowed,
-        farthest: t.farthest,
-    }
+    hand_inserts::insert_leaf(&mut t.arena, name, q, p);
 }
 
 // A new node between p and its child c.
-pub fn with_node_between(t: Table, name: NodeName, q: Point, p: NodeIndex, c: NodeIndex) -> Table
-    requires addable { Addable t (name_in name) q }
-    requires c_value { ((node_at (table_tree t).nodes c.0).parent ≡ at p.0) × Room t 1 (steiner_in (name_in name)) }
-    ensures { Stepped (λ x. spliced x (name_in name) q p.0 c.0) t result }
+pub fn with_node_between(t: &mut Table, name: NodeName, q: Point, p: NodeIndex, c: NodeIndex)
+    requires addable { Addable t.old (name_in name) q }
+    requires c_value { ((node_at (table_tree t.old).nodes c.0).parent ≡ at p.0) × Room t.old 1 (steiner_in (name_in name)) }
+    ensures { Stepped (λ x. spliced x (name_in name) q p.0 c.0) t.old t.new }
 {
-    let mut points = t.points;
-    let mut path = t.path;
-    let mut marks = t.marks;
-    let mut links = t.links;
-    let k = hand_inserts::insert_between(
-        &mut points,
-        &mut path,
-        &mut marks,
-        &mut links,
-        t.counts,
-        name,
-        q,
-        p,
-        c,
-    );
-    Table {
-        points: points,
-        path: path,
-        marks: marks,
-        links: links,
-        counts: k,
-        limit: t.limit,
-        allowed: t.allowed,
-        farthest: t.farthest,
-    }
+    hand_inserts::insert_between(&mut t.arena, name, q, p, c);
 }
 
 // A new terminal where it joins.
-pub fn with_terminal(t: Table, q: Point, j: Join) -> Table
-    requires tabled { Tabled t × Within reach q }
-    requires fits { Fits (table_tree t).nodes (join_of j) }
-    requires room { Room t (new_nodes (join_of j)) (new_number t.counts (join_of j)) }
-    ensures { Stepped (λ x. join x q (join_of j)) t result }
+pub fn with_terminal(t: &mut Table, q: Point, j: Join)
+    requires tabled { Tabled t.old × Within reach q }
+    requires fits { Fits (table_tree t.old).nodes (join_of j) }
+    requires room { Room t.old (new_nodes (join_of j)) (new_number t.old.arena.counts (join_of j)) }
+    ensures { Stepped (λ x. join x q (join_of j)) t.old t.new }
 {
-    let mut points = t.points;
-    let mut path = t.path;
-    let mut marks = t.marks;
-    let mut links = t.links;
-    let k = joining::join(
-        &mut points,
-        &mut path,
-        &mut marks,
-        &mut links,
-        t.counts,
-        q,
-        j,
-    );
-    Table {
-        points: points,
-        path: path,
-        marks: marks,
-        links: links,
-        counts: k,
-        limit: t.limit,
-        allowed: t.allowed,
-        farthest: t.farthest,
-    }
+    t.arena.join(q, j);
 }
 
 // The one-child Steiner nodes go.
-pub fn without_lone_nodes(t: Table) -> Table
-    requires { Tabled t }
-    ensures { Stepped optimize t result }
+pub fn without_lone_nodes(t: &mut Table)
+    requires { Tabled t.old }
+    ensures { Stepped optimize t.old t.new }
 {
-    let mut points = t.points;
-    let mut path = t.path;
-    let mut marks = t.marks;
-    let mut links = t.links;
-    let k = optimizing::optimize(&mut points, &mut path, &mut marks, &mut links, t.counts);
-    Table {
-        points: points,
-        path: path,
-        marks: marks,
-        links: links,
-        counts: k,
-        limit: t.limit,
-        allowed: t.allowed,
-        farthest: t.farthest,
-    }
+    optimizing::optimize(&mut t.arena);
 }

@@ -3,24 +3,17 @@ use Prim.Native.Nat.{ℕ, zero, suc, ◌+◌, ◌≤◌, ◌<◌}
 use mathlib.Core.Path.{◌≡◌, refl, sym, ap, ◌∙◌}
 use mathlib.Core.Bool.{Bool, true, false}
 use mathlib.Core.List.{List}
-use native.Mathlib.Decide.{ℕ_discrete}
 use native.Mathlib.Omega.{arith}
 use lib.ListN.{get_or}
-use lib.Dec.{eqb}
 use borrow.Author.Tests.{eq-eqb, ne_eqb}
 use Rattle.tree.specs.Tree.{Node, Name, node_at, blank}
 use Rattle.tree.specs.Measures.{Lookup, missing, found, kind_of, number_of, same_name, lookup}
+use Rattle.tree.specs.Memory.{type_of, named, name_in}
+use Rattle.tree.specs.declared.NodeName.{NodeName}
+use Rattle.tree.specs.declared.NodeName.TheVariants.{Source, Steiner, Terminal}
 use Rattle.tree.proofs.Deciding.{Tri, less, equal, more, tri}
 use Rattle.joining.specs.Store.{Columns, name_from, node_of, nodes_of}
 use Rattle.joining.proofs.Reading.{get_or-upto}
-
--- ---- two names
-module _ (a b : Name) (k l : ℕ) (ek : k ≡ kind_of a) (el : l ≡ kind_of b) where
-  pub same_kind : k ≡ l → (m n : ℕ) → m ≡ number_of a → n ≡ number_of b → eqb m n ≡ same_name a b
-  same_kind e m n em en = (λ i. eqb (em i) (en i)) ∙ sym (rw (eq-eqb (kind_of a) (kind_of b) (sym ek ∙ e ∙ el)))
-
-  pub other_kind : (k ≡ l → ⊥) → false ≡ same_name a b
-  other_kind f = sym (rw (ne_eqb (kind_of a) (kind_of b) (λ z. f (ek ∙ z ∙ sym el))))
 
 -- ---- the lowest of the first k nodes
 abbrev index : Lookup → ℕ
@@ -60,35 +53,50 @@ module _ (ns : List Node) (x : Name) where
       by (found j) m ih = let z : found j ≡ found i = sym (rw m refl) ∙ e in omega (arith, ih j m, ap index z)
       by missing m ih = last (same_name (node_at ns k).name x) refl m
 
+-- ---- the code's names and the definition's
+same : (a : Name) → same_name a a ≡ true
+same a = rw (eq-eqb (kind_of a) (kind_of a) refl) (eq-eqb (number_of a) (number_of a) refl)
+
+other : (a b : NodeName) → (a ≡ b → ⊥) → same_name (name_in a) (name_in b) ≡ false
+other Source Source f = absurd (f refl)
+other Source (Steiner l) f = refl
+other Source (Terminal l) f = refl
+other (Steiner k) Source f = refl
+other (Steiner k) (Steiner l) f = ne_eqb k.0 l.0 (λ z. f (ap (λ (n : ℕ). Steiner (record { 0 = n })) z))
+other (Steiner k) (Terminal l) f = refl
+other (Terminal k) Source f = refl
+other (Terminal k) (Steiner l) f = refl
+other (Terminal k) (Terminal l) f = ne_eqb k.0 l.0 (λ z. f (ap (λ (n : ℕ). Terminal (record { 0 = n })) z))
+
 -- ---- in columns
-abbrev pub named : List ℕ → List ℕ → ℕ → Name
-named kind number j = name_from (get_or kind j 0) (get_or number j 0)
+abbrev pub own_name : List ℕ → List ℕ → ℕ → Name
+own_name kind number j = name_from (get_or kind j 0) (get_or number j 0)
 
-module _ (kind number : List ℕ) (x : Name) where
+module _ (kind number : List ℕ) (x : NodeName) where
   abbrev own : ℕ → Name
-  own = named kind number
+  own = own_name kind number
 
-  -- as the code tests it
-  pub tested : (i k : ℕ) (o : Name) (b t : Bool) → k ≡ i → o ≡ own k → b ≡ same_name o x → b ≡ t → same_name (own i) x ≡ t
-  tested i k o b t ek eo eb et = ap (λ (y : Name). same_name y x) (sym (eo ∙ ap own ek)) ∙ sym eb ∙ et
+  -- the name that the code reads at node i, which may be given by its place k
+  module _ (i k : ℕ) (e : k ≡ i) (o : NodeName) (eo : o ≡ named (type_of (get_or kind k 0)) (get_or number k 0)) where
+    is : own i ≡ name_in o
+    is = sym (ap name_in eo ∙ ap own e)
 
-  pub one_more : (i : ℕ) → Other own x i → same_name (own i) x ≡ false → Other own x (i + 1)
-  one_more i f t j h = by (ℕ_discrete j i)
-    where
-      by : Dec (j ≡ i) → same_name (own j) x ≡ false
-      by (yes e) = ap (λ (k : ℕ). same_name (own k) x) e ∙ t
-      by (no e) = f j (omega arith)
+    pub met : o ≡ x → same_name (own i) (name_in x) ≡ true
+    met h = ap (λ (y : Name). same_name y (name_in x)) is ∙ ap (λ (y : NodeName). same_name (name_in y) (name_in x)) h ∙ same (name_in x)
 
-  module _ (n : ℕ) (c : Columns) (ek : c.rows.kind ≡ kind) (en : c.rows.number ≡ number) (i : ℕ) (f : Other own x i) where
+    pub missed : (o ≡ x → ⊥) → same_name (own i) (name_in x) ≡ false
+    missed f = ap (λ (y : Name). same_name y (name_in x)) is ∙ other o x f
+
+  module _ (n : ℕ) (c : Columns) (ek : c.rows.kind ≡ kind) (en : c.rows.number ≡ number) (i : ℕ) (f : Other own (name_in x) i) where
     name-at : (j : ℕ) → j < n → (node_at (nodes_of c n) j).name ≡ own j
     unfolding node_at
     name-at j h = ap (λ (m : Node). m.name) (get_or-upto (node_of c) blank n j h) ∙ (λ i. name_from (get_or (ek i) j 0) (get_or (en i) j 0))
 
-    others : (k : ℕ) → k ≤ n → k ≤ i → Other (λ j. (node_at (nodes_of c n) j).name) x k
-    others k l m j h = ap (λ (y : Name). same_name y x) (name-at j (omega arith)) ∙ f j (omega arith)
+    others : (k : ℕ) → k ≤ n → k ≤ i → Other (λ j. (node_at (nodes_of c n) j).name) (name_in x) k
+    others k l m j h = ap (λ (y : Name). same_name y (name_in x)) (name-at j (omega arith)) ∙ f j (omega arith)
 
-    pub named_none : n ≤ i → missing ≡ lookup (nodes_of c n) x n
-    named_none h = sym (none_has (nodes_of c n) x n (others n (omega arith) h))
+    pub named_none : n ≤ i → missing ≡ lookup (nodes_of c n) (name_in x) n
+    named_none h = sym (none_has (nodes_of c n) (name_in x) n (others n (omega arith) h))
 
-    pub named-first : i < n → same_name (own i) x ≡ true → found i ≡ lookup (nodes_of c n) x n
-    named-first h t = sym (first-has (nodes_of c n) x n i h (others i (omega arith) (omega arith)) (ap (λ (y : Name). same_name y x) (name-at i h) ∙ t))
+    pub named-first : i < n → same_name (own i) (name_in x) ≡ true → found i ≡ lookup (nodes_of c n) (name_in x) n
+    named-first h t = sym (first-has (nodes_of c n) (name_in x) n i h (others i (omega arith) (omega arith)) (ap (λ (y : Name). same_name y (name_in x)) (name-at i h) ∙ t))

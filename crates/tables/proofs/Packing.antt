@@ -1,19 +1,16 @@
--- The loop that packs rows into nodes: its start, a turn, its end. The nodes before i are the rows'.
+-- The loop that packs rows into nodes: a turn. The nodes before i are the rows'.
 use Prim.Native.Nat.{ℕ, ◌+◌, ◌<◌}
 use mathlib.Core.Path.{◌≡◌, sym, ap, ◌∙◌}
 use mathlib.Core.List.{List}
 use native.Mathlib.Decide.{ℕ_discrete}
 use native.Mathlib.Omega.{arith}
-use lib.ListN.{length, get_or, set, replicate, length-set, length-replicate}
+use lib.ListN.{length, get_or, set, length-set}
 use lib.Seq.{get_or-set_same, get_or-set_other}
 use Rattle.tree.specs.Limits.{most_nodes}
 use Rattle.tree.specs.declared.RoutingNode.{RoutingNode}
 use Rattle.tree.specs.Memory.{node_in}
 use Rattle.joining.specs.Store.{Rows, row_at, node_from}
 use Rattle.tables.specs.Nodes.{blank_node, Packs}
-
-pub packs_none : (r : Rows) (nodes : List RoutingNode) → nodes ≡ replicate most_nodes blank_node → Packs r 0 nodes
-packs_none r nodes e = record { size = ap length e ∙ length-replicate most_nodes blank_node; is = λ i h. absurd (omega arith) }
 
 pub packs_more : (r : Rows) (i : ℕ) (nodes : List RoutingNode) (n : RoutingNode) → i < most_nodes → Packs r i nodes
     → ((cs : List ℕ) → node_in n cs ≡ node_from (row_at r i) cs) → Packs r (i + 1) (set nodes i n)

@@ -1,4 +1,4 @@
--- In the arrays of a table a tree stands.
+-- In a table's arena a tree stands.
 use mathlib.Core.Path.{refl, sym, subst}
 use Prim.Native.Nat.{ℕ}
 use native.Mathlib.Omega.{arith}
@@ -12,7 +12,7 @@ use Rattle.tables.specs.Table.{table_columns, table_links, table_store, table_tr
 use Rattle.tables.proofs.TableSizes.{size, few}
 
 module _ {t : Table} (v : Tabled t) where
-  pub stores : Stores (table_tree t) t.counts (table_store t)
+  pub stores : Stores (table_tree t) t.arena.counts (table_store t)
   stores =
       record {
         size = size t;
@@ -25,7 +25,7 @@ module _ {t : Table} (v : Tabled t) where
   sized : SizedStore most_nodes (table_store t)
   sized = record { rows = v.sized.rows; links = record { last = v.sized.last; prev = v.sized.prev; next = v.back.size; few = v.sized.few } }
 
-  pub stands : (When : Tree → Type 0) → When (table_tree t) → Stands When t.counts (table_store t)
+  pub stands : (When : Tree → Type 0) → When (table_tree t) → Stands When t.arena.counts (table_store t)
   stands When h =
       record {
         tree = table_tree t;

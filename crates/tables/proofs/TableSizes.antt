@@ -11,11 +11,11 @@ use Rattle.joining.proofs.Reading.{length_upto}
 use Rattle.tables.specs.declared.Table.{Table}
 use Rattle.tables.specs.Table.{table_columns, table_tree, Tabled}
 
-pub size : (t : Table) → length (table_tree t).nodes ≡ t.counts.nodes
-size t = length_upto (node_of (table_columns t)) t.counts.nodes
+pub size : (t : Table) → length (table_tree t).nodes ≡ t.arena.counts.nodes
+size t = length_upto (node_of (table_columns t)) t.arena.counts.nodes
 
 pub few : {t : Table} → Tabled t → length (table_tree t).nodes ≤ most_nodes
 few {t} v = omega (arith, size t, v.few)
 
-pub of_all : (t : Table) (n : Name) {l : Lookup} → l ≡ lookup (table_tree t).nodes n t.counts.nodes → l ≡ lookup_in (table_tree t).nodes n
+pub of_all : (t : Table) (n : Name) {l : Lookup} → l ≡ lookup (table_tree t).nodes n t.arena.counts.nodes → l ≡ lookup_in (table_tree t).nodes n
 of_all t n h = h ∙ ap (lookup (table_tree t).nodes n) (sym (size t))

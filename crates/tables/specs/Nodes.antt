@@ -1,16 +1,14 @@
 -- Nodes by value, and their rows in columns; what a name leads to.
-use Rattle.std.specs.Prelude.{ℕ, ◌≤◌, ◌<◌, ◌≡◌, List, length, get_or}
+use Rattle.std.specs.Prelude.{ℕ, ◌≤◌, ◌<◌, ◌≡◌, List, length, get_or, Option, None, Some}
 use Rattle.geometry.specs.Geometry.{origin}
 use Rattle.tree.specs.Limits.{most_nodes, no_node}
 use Rattle.tree.specs.Tree.{at, zero_figure}
 use Rattle.tree.specs.Measures as D
+use Rattle.tree.specs.declared.NodeIndex.{NodeIndex}
 use Rattle.tree.specs.declared.RoutingNode.{RoutingNode}
 use Rattle.tree.specs.declared.NodeName.TheVariants.{Source}
-use Rattle.tree.specs.declared.Parent.TheVariants.{None}
 use Rattle.tree.specs.Memory.{parent_in, node_in}
 use Rattle.joining.specs.Store.{Rows, row_at, node_from}
-use Rattle.tables.specs.declared.Lookup.{Lookup}
-use Rattle.tables.specs.declared.Lookup.TheVariants.{Missing, Found}
 
 -- what stands where no node is
 abbrev pub blank_node : RoutingNode
@@ -33,6 +31,6 @@ pub record Unpackable (nodes : List RoutingNode) (n : ℕ) : Type 0 where
   pub plain : (i : ℕ) → i < n → Plain (get_or nodes i blank_node)
 
 -- 7, "a name that no node has", or the node's index
-abbrev pub lookup_of : Lookup → D.Lookup
-lookup_of Missing = D.missing
-lookup_of (Found i) = D.found i.0
+abbrev pub lookup_of : Option NodeIndex → D.Lookup
+lookup_of None = D.missing
+lookup_of (Some i) = D.found i.0

@@ -10,7 +10,8 @@ use native.Mathlib.Omega.{arith}
 use lib.ListN.{length, length-append, length-map}
 use lib.Dec.{eqb}
 use borrow.Author.Tests.{eqb-true}
-use Rattle.geometry.specs.Signed.{and_right, no_way}
+use Rattle.std.specs.Cmp.{second_so}
+use Rattle.geometry.specs.Signed.{no_way}
 use Rattle.geometry.specs.Laws.{Within}
 use Rattle.tree.specs.Limits.{reach}
 use Rattle.tree.specs.Tree.{one, Node, Tree, Name, source, steiner, terminal, Parent, none, at, node_at, change, without, replace_last, with_parent, terminals}
@@ -49,7 +50,7 @@ pub lone_below : (ns : List Node) (i p : ℕ) → lone ns i ≡ true → (node_a
 unfolding lone
 lone_below ns i p e over =
     let s = steiner_is (node_at ns i).name _ e in
-    let k = single (node_at ns i).children (eqb-true _ _ (and_right (is_steiner (node_at ns i).name) _ e)) in
+    let k = single (node_at ns i).children (eqb-true _ _ (second_so (is_steiner (node_at ns i).name) _ e)) in
     record { p = p; c = k.0; number = s.0; named = s.1; over = over; only = k.1 }
 
 module _ {ns : List Node} (g : Linked ns) {i : ℕ} (v : Lone ns i) where

@@ -1,12 +1,13 @@
 -- A node in memory, as the definitions' node; points in two columns, and keepouts as flat numbers. Definitions only.
-use Rattle.std.specs.Prelude.{ℕ, List, [], ◌∷◌, get_or, ℤ, pos}
+use Rattle.std.specs.Prelude.{ℕ, zero, suc, List, [], ◌∷◌, Option, None, Some, get_or, ℤ, pos}
 use Rattle.geometry.specs.declared.Point.{Point}
 use Rattle.geometry.specs.declared.Rectangle.{Rectangle}
 use Rattle.tree.specs.Tree as D
 use Rattle.tree.specs.declared.NodeName.{NodeName}
 use Rattle.tree.specs.declared.NodeName.TheVariants.{Source, Steiner, Terminal}
-use Rattle.tree.specs.declared.Parent.{Parent}
-use Rattle.tree.specs.declared.Parent.TheVariants.{None, At}
+use Rattle.tree.specs.declared.NodeIndex.{NodeIndex}
+use Rattle.tree.specs.declared.NodeType.{NodeType}
+use Rattle.tree.specs.declared.NodeType.TheVariants as T
 use Rattle.tree.specs.declared.RoutingNode.{RoutingNode}
 
 abbrev pub name_in : NodeName → D.Name
@@ -14,9 +15,27 @@ name_in Source = D.source
 name_in (Steiner k) = D.steiner k.0
 name_in (Terminal k) = D.terminal k.0
 
-abbrev pub parent_in : Parent → D.Parent
+-- the kinds' numbers: "kind (0 source, 1 Steiner, 2 terminal)"
+abbrev pub type_number : NodeType → ℕ
+type_number T.Source = 0
+type_number T.Steiner = 1
+type_number T.Terminal = 2
+
+-- any other number is a terminal's
+abbrev pub type_of : ℕ → NodeType
+type_of zero = T.Source
+type_of (suc zero) = T.Steiner
+type_of (suc (suc n)) = T.Terminal
+
+-- the name of a kind that has a number
+abbrev pub named : NodeType → ℕ → NodeName
+named T.Source k = Source
+named T.Steiner k = Steiner (record { 0 = k })
+named T.Terminal k = Terminal (record { 0 = k })
+
+abbrev pub parent_in : Option NodeIndex → D.Parent
 parent_in None = D.none
-parent_in (At p) = D.at p.0
+parent_in (Some p) = D.at p.0
 
 -- with its list of children
 abbrev pub node_in : RoutingNode → List ℕ → D.Node

@@ -2,7 +2,8 @@
 #![tactic(auto)]
 
 ghost use Rattle.std.specs.Prelude.{◌≡◌, ◌<◌, length};
-ghost use Rattle.tree.specs.Memory.{point_at};
+ghost use Rattle.tree.specs.Measures.{kind_of, number_of};
+ghost use Rattle.tree.specs.Memory.{type_number, type_of, named, name_in, point_at};
 
 use geometry::Point;
 
@@ -27,64 +28,105 @@ pub const UNMEASURED: u32 = 0;
 // What stands for no node in a column of indices.
 pub const NO_NODE: u16 = 65535;
 
-// The kinds of node, as a column holds them.
-pub const SOURCE: u16 = 0;
-
-pub const STEINER: u16 = 1;
-
-pub const TERMINAL: u16 = 2;
-
-// The refusals' numbers, but for 11, which is `output`'s.
-pub const WRONG_LENGTH: u8 = 1;
-
-pub const TOO_MANY: u8 = 2;
-
-pub const WRONG_OFFSET: u8 = 3;
-
-pub const WRONG_MODE: u8 = 4;
-
-pub const OUTSIDE: u8 = 5;
-
-pub const BAD_KEEPOUT: u8 = 6;
-
-pub const NO_SUCH_NODE: u8 = 7;
-
-pub const NOT_A_CHILD: u8 = 8;
-
-pub const NEW_SOURCE: u8 = 9;
-
-pub const FULL: u8 = 10;
-
 // A node's index, a Steiner number and a terminal number: none serves for another.
-#[derive(Clone, Copy)]
+#[derive(Clone, Copy, Debug, PartialEq, Eq, Hash)]
 pub struct NodeIndex(pub u16);
 
-#[derive(Clone, Copy)]
+#[derive(Clone, Copy, Debug, PartialEq, Eq, Hash)]
 pub struct SteinerNumber(pub u16);
 
-#[derive(Clone, Copy)]
+#[derive(Clone, Copy, Debug, PartialEq, Eq, Hash)]
 pub struct TerminalNumber(pub u16);
 
-// The Rust's `id` and `node_type`.
-#[derive(Clone, Copy)]
+impl From<NodeIndex> for usize {
+    ghost from_gives = { λ i n. n ≡ i.0 };
+
+    fn from(i: NodeIndex) -> usize {
+        usize::from(i.0)
+    }
+}
+
+// The Rust's `node_type`.
+#[derive(Clone, Copy, Debug, PartialEq, Eq, Hash)]
+pub enum NodeType {
+    Source,
+    Steiner,
+    Terminal,
+}
+
+// As a column and a record hold it: the numbers of document 01.
+impl From<NodeType> for u16 {
+    ghost from_gives = { λ t n. n ≡ type_number t };
+
+    fn from(t: NodeType) -> u16 {
+        match t {
+            NodeType::Source => 0,
+            NodeType::Steiner => 1,
+            NodeType::Terminal => 2,
+        }
+    }
+}
+
+// Any other number is a terminal's.
+impl From<u16> for NodeType {
+    ghost from_gives = { λ n t. t ≡ type_of n };
+
+    fn from(n: u16) -> NodeType {
+        match n {
+            0 => NodeType::Source,
+            1 => NodeType::Steiner,
+            _ => NodeType::Terminal,
+        }
+    }
+}
+
+// The Rust's `id`.
+#[derive(Clone, Copy, Debug, PartialEq, Eq, Hash)]
 pub enum NodeName {
     Source,
     Steiner(SteinerNumber),
     Terminal(TerminalNumber),
 }
 
-// The Rust's `Option<usize>`.
-#[derive(Clone, Copy)]
-pub enum Parent {
-    None,
-    At(NodeIndex),
+impl NodeName {
+    // The name of a kind that has a number; the source has none.
+    pub fn new(kind: NodeType, number: u16) -> NodeName
+        ensures { result ≡ named kind number }
+    {
+        match kind {
+            NodeType::Source => NodeName::Source,
+            NodeType::Steiner => NodeName::Steiner(SteinerNumber(number)),
+            NodeType::Terminal => NodeName::Terminal(TerminalNumber(number)),
+        }
+    }
+
+    pub fn node_type(self) -> NodeType
+        ensures { type_number result ≡ kind_of (name_in self) }
+    {
+        match self {
+            NodeName::Source => NodeType::Source,
+            NodeName::Steiner(_) => NodeType::Steiner,
+            NodeName::Terminal(_) => NodeType::Terminal,
+        }
+    }
+
+    // 0 for the source.
+    pub fn number(self) -> u16
+        ensures { result ≡ number_of (name_in self) }
+    {
+        match self {
+            NodeName::Source => 0,
+            NodeName::Steiner(k) => k.0,
+            NodeName::Terminal(k) => k.0,
+        }
+    }
 }
 
 // A node, but for its children, which the tree's links have.
 #[derive(Clone, Copy)]
 pub struct RoutingNode {
     pub name: NodeName,
-    pub parent: Parent,
+    pub parent: Option<NodeIndex>,
     pub pt: Point,
     pub path_length: u32,
     pub capacitance: f64,
@@ -92,7 +134,7 @@ pub struct RoutingNode {
 }
 
 // The point that stands at i in two columns.
-pub fn point_at<'a>(xs: &'a [i32], ys: &'a [i32], i: usize) -> Point
+pub fn point_at(xs: &[i32], ys: &[i32], i: usize) -> Point
     requires { (i < length xs.now) × (i < length ys.now) }
     ensures { result ≡ point_at xs.now ys.now i }
 {

@@ -8,18 +8,22 @@ use native.Mathlib.Omega.{arith}
 use lib.ListN.{length, get_or, length-reverse}
 use lib.Dec.{eqb}
 use borrow.Author.Tests.{eq-eqb, eqb-true}
-use Rattle.tree.specs.Limits.{most_nodes, no_node}
-use Rattle.tree.specs.Tree.{one, Node, node_at}
+use Rattle.std.specs.Prelude.{Option, None, Some}
+use Rattle.tree.specs.Limits.{most_nodes}
+use Rattle.tree.specs.declared.NodeIndex.{NodeIndex}
+use Rattle.tree.specs.Tree.{one, Node, at, node_at}
 use Rattle.tree.specs.Shape.{count}
 use Rattle.tree.specs.Measures.{place_in, place_under}
 use Rattle.tree.proofs.Linking.{counted}
 use Rattle.search.specs.Columns.{Has, chain, Chain, Chained}
-use Rattle.search.proofs.Chains.{chain_is, Unrolled, unroll, ended}
+use Rattle.search.proofs.Chains.{chain_is}
 use Rattle.search.proofs.Distinct.{pigeon}
 use Rattle.search.specs.Find.{examined}
-use Rattle.joining.specs.Store.{Columns}
+use Rattle.joining.specs.Store.{Columns, index_from}
 use Rattle.joining.proofs.Agree.{count-reverse, once}
-use Rattle.measures.proofs.Lent.{Read, parent-some, parent-low, parent-none}
+use Rattle.measures.specs.Children.{chain_at, Siblings}
+use Rattle.measures.proofs.Lent.{Read, parent_is, parent_low}
+use Rattle.measures.proofs.Children.{link_read, siblings_from, chain-none, siblings_before, chain_step}
 
 -- not there: the place of the new one is the length
 place_new : (i : ℕ) (xs : List ℕ) → count i xs ≡ 0 → place_in i (xs ++ (i ∷ [])) ≡ length xs
@@ -76,11 +80,10 @@ before prev i l (c ∷ cs) h k = by (eqb c i) refl k (before prev i (get_or prev
           place = ap (place_in i) (reverse-cons c cs) ∙ place_old i (reverse cs) c (omega (arith, count-reverse i cs)) ∙ v.place;
         }
 
--- the steps that are left from c on, of `all`
-pub record Steps (prev : List ℕ) (n all c steps : ℕ) : Type 0 where
-  pub links : Chained prev c
-  pub below : (x : ℕ) → Has x (chain prev c) → x < n
-  pub is : steps + length (chain prev c) ≡ all
+-- the steps that are left from a sibling on, of `all`
+pub record Steps (prev : List ℕ) (n all : ℕ) (sibling : Option NodeIndex) (steps : ℕ) : Type 0 where
+  pub siblings : Siblings prev n sibling
+  pub is : steps + length (chain_at prev sibling) ≡ all
   pub few : all ≤ most_nodes
 
 module _ {ns : List Node} {c : Columns} {n : ℕ} (v : Read ns c n) where
@@ -88,75 +91,51 @@ module _ {ns : List Node} {c : Columns} {n : ℕ} (v : Read ns c n) where
     abbrev pub place_of : ℕ
     place_of = place_under ns i (node_at ns i).parent
 
-    pub place-source : get_or c.rows.parent i 0 ≡ no_node → 0 ≡ place_of
-    place-source e = sym (ap (place_under ns i) (parent-none v i h e))
+    pub place-source : None ≡ index_from (get_or c.rows.parent i 0) → 0 ≡ place_of
+    place-source e = sym (ap (place_under ns i) (parent_is v i h e))
 
-    module _ (f : get_or c.rows.parent i 0 ≡ no_node → ⊥) where
-      p : ℕ
-      p = get_or c.rows.parent i 0
+    module _ {p : NodeIndex} (f : Some p ≡ index_from (get_or c.rows.parent i 0)) where
+      low : p.0 < n
+      low = parent_low v i h f refl
 
-      low : p < n
-      unfolding p
-      low = parent-low v i h f
+      is_child : (node_at ns i).parent ≡ at p.0
+      is_child = parent_is v i h f
 
       cs : List ℕ
-      cs = examined ns p
+      cs = examined ns p.0
 
       short : length cs ≤ n
       unfolding cs
       short =
-          let below : (x : ℕ) → Has x (examined ns p) → x < n = λ x m. v.below p x low (subst (Has x) (sym (v.kids p low)) m) in
-          pigeon n (examined ns p) (once ns v.linked p) below
+          let below : (x : ℕ) → Has x (examined ns p.0) → x < n = λ x m. v.below p.0 x low (subst (Has x) (sym (v.kids p.0 low)) m) in
+          pigeon n (examined ns p.0) (once ns v.linked p.0) below
 
       sibs : Before c.prev i cs
-      unfolding cs p
+      unfolding cs
       sibs =
-          before c.prev i (get_or c.last p 0) (examined ns p) (subst (Chain c.prev (get_or c.last p 0)) (v.kids p low) (v.links p low).is)
-          (count-reverse i (node_at ns p).children ∙ counted v.linked i p (parent-some v i h f))
+          before c.prev i (get_or c.last p.0 0) (examined ns p.0) (subst (Chain c.prev (get_or c.last p.0 0)) (v.kids p.0 low) (v.links p.0 low).is)
+          (count-reverse i (node_at ns p.0).children ∙ counted v.linked i p.0 is_child)
 
       chain-those : chain c.prev (get_or c.prev i 0) ≡ sibs.those
       chain-those = chain_is (length c.prev) c.prev (get_or c.prev i 0) sibs.those v.ends sibs.lead (omega (arith, sibs.few, short, v.few, v.in_prev))
 
-      pub starts : (x : ℕ) → x ≡ get_or c.prev i 0 → Steps c.prev n place_of x 0
-      unfolding cs p
-      starts y ey =
+      pub starts : {sibling : Option NodeIndex} → sibling ≡ index_from (get_or c.prev i 0) → Steps c.prev n place_of sibling 0
+      unfolding cs
+      starts {sibling} es =
           let e : place_of ≡ length sibs.those
-          = ap (place_under ns i) (parent-some v i h f) ∙ ap (place_in i) (sym (reverse-reverse (node_at ns p).children)) ∙ sibs.place in
-          rw ey
-          (record {
-            links = record { is = subst (Chain c.prev (get_or c.prev i 0)) (sym chain-those) sibs.lead };
-            below = λ x m. v.below p x low (subst (Has x) (sym (v.kids p low)) (sibs.among x (subst (Has x) chain-those m)));
-            is = omega (arith, e, ap length chain-those);
+          = ap (place_under ns i) is_child ∙ ap (place_in i) (sym (reverse-reverse (node_at ns p.0).children)) ∙ sibs.place in
+          let links : Chained c.prev (get_or c.prev i 0) = record { is = subst (Chain c.prev (get_or c.prev i 0)) (sym chain-those) sibs.lead } in
+          record {
+            siblings = siblings_from (get_or c.prev i 0) es links (λ x m. v.below p.0 x low (subst (Has x) (sym (v.kids p.0 low)) (sibs.among x (subst (Has x) chain-those m))));
+            is = omega (arith, e, ap length (ap (chain c.prev) (link_read (get_or c.prev i 0) es) ∙ chain-those));
             few = omega (arith, e, sibs.few, short, v.few);
-          })
+          }
 
-  module _ {all x steps : ℕ} (s : Steps c.prev n all x steps) where
-    pub stops : x ≡ no_node → steps ≡ all
-    stops e = omega (arith, s.is, ap length (ended c.prev x v.ends e))
+  module _ {all : ℕ} {sibling : Option NodeIndex} {steps : ℕ} (s : Steps c.prev n all sibling steps) where
+    pub stops : sibling ≡ None → steps ≡ all
+    stops e = omega (arith, s.is, ap length (chain-none v s.siblings e))
 
-    module _ (f : x ≡ no_node → ⊥) where
-      rest : Unrolled c.prev x
-      rest = unroll c.prev x v.ends s.links f
-
-      pub here : x < n
-      unfolding Has
-      here = s.below x (subst (Has x) (sym rest.is) (inl refl))
-
-      pub more : steps < most_nodes
-      more = omega (arith, s.is, s.few, ap length rest.is)
-
-      -- y is the sibling before
-      module _ (k y : ℕ) (e : k ≡ x) (ey : y ≡ get_or c.prev k 0) where
-        pub turn : Steps c.prev n all y (steps + 1)
-        unfolding Has
-        turn =
-            rw (ey, e)
-            (record {
-              links = rest.after;
-              below = λ z m. s.below z (subst (Has z) (sym rest.is) (inr m));
-              is = omega (arith, s.is, ap length rest.is);
-              few = s.few;
-            })
-
-        pub shorter : length (chain c.prev y) < length (chain c.prev x)
-        shorter = rw (ey, e) (omega (arith, ap length rest.is))
+    -- at the sibling x, which is read at k, and then the one before it
+    module _ {x : NodeIndex} (e : sibling ≡ Some x) {k : ℕ} (ek : k ≡ x.0) {earlier : Option NodeIndex} (eb : earlier ≡ index_from (get_or c.prev k 0)) where
+      pub turn : Steps c.prev n all earlier (steps + 1)
+      turn = record { siblings = siblings_before v s.siblings e k ek eb; is = omega (arith, s.is, ap length (chain_step v s.siblings e k ek eb)); few = s.few }

@@ -10,8 +10,8 @@ use Rattle.joining.specs.Store.{Columns}
 use Rattle.measures.proofs.Lent.{Read}
 use Rattle.tree_bytes.specs.TreeBytes.{record_of, in_turn, header_of, bytes_of}
 
-module _ {ns : List Node} {c : Columns} {n : ℕ} (v : Read ns c n) (allowed : ℤ) (w : ℕ) where
-  pub whole : {t s a b : ℕ} → t ≡ length (terminal_nodes ns) → s ≡ length (steiner_nodes ns) → a ≡ total ns → b ≡ worst ns
-      → header_of n t s allowed w a b ++ in_turn (record_of ns) n ≡ bytes_of ns allowed w
+module _ {ns : List Node} {c : Columns} {n : ℕ} (v : Read ns c n) {allowed : ℤ} {w : ℕ} where
+  pub whole : {t s a b w' : ℕ} {z : ℤ} → t ≡ length (terminal_nodes ns) → s ≡ length (steiner_nodes ns) → z ≡ allowed → w' ≡ w → a ≡ total ns → b ≡ worst ns
+      → header_of n t s z w' a b ++ in_turn (record_of ns) n ≡ bytes_of ns allowed w
   unfolding bytes_of
-  whole et es ea eb = λ j. header_of (sym v.size j) (et j) (es j) allowed w (ea j) (eb j) ++ in_turn (record_of ns) (sym v.size j)
+  whole et es ez ew ea eb = λ j. header_of (sym v.size j) (et j) (es j) (ez j) (ew j) (ea j) (eb j) ++ in_turn (record_of ns) (sym v.size j)

@@ -1,7 +1,7 @@
 -- Laws of fields: what a field depends on, its parts and its bound; what is written is read again, and nothing else changes; two's complement both ways.
 -- The idea: a field is its k bytes (`le_ext`), so a law of one byte is one of every width. That a field is below its bound (`le_below`), gives its bytes
--- again (`le_bytes-bytes`), and that numbers and signed fields go both ways (`twos_fits`, `bits_twos`, `int32_written`, `int32-past`) is what shows that
--- the definitions are a format's; the code does not cite it.
+-- again (`le_bytes-bytes`), has parts (`le_split`, `le_bytes-split`), and that numbers and signed fields go both ways (`twos_fits`, `bits_twos`,
+-- `int32_written`, `int32-past`) is what shows that the definitions are a format's. Of all these this crate's code needs `twos_of` and `bits_of`.
 use Rattle.std.specs.Prelude.{◌≡◌, refl, Bool, true, false, cond, List, [], ◌∷◌, ◌++◌, ℕ, zero, suc, ◌+◌, ◌-◌, ◌*◌, ◌/◌, ◌%◌, ◌^◌, ◌≤◌, ◌<◌, length, take, drop, ℤ, pos, negsuc, ltb}
 use Rattle.std.proofs.Common.{sym, ap, ◌∙◌, ⊎_elim, append_assoc, zero-add, add-zero, suc-add, add_assoc, mul_assoc, mod-lt, mod-eq_of_lt, arith, get_or-append-add, length-take-le, lt-ltb}
 use Rattle.std.proofs.Math.Nat.{pow-succ', one-le-pow, div-add-mod, div-div-eq-div-mul, mod-mod_of_dvd, dvd-mul_right, add-mul-mod_self_left}

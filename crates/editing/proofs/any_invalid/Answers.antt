@@ -1,13 +1,16 @@
--- `any_invalid`: the keepouts from i on decide as all of them do.
-use Rattle.std.proofs.Common.{arith}
-use Rattle.search.proofs.Keepouts.{scan_hit, scan_next, scan_ends}
+-- `any_invalid`: the keepouts that are left decide as all of them do.
+use Rattle.search.proofs.Keepouts.{left_hit, left_next, left_none}
 use Rattle.editing.proofs.any_invalid.Goals as goal
 
 pub returns-then-invalid_keepout : goal.returns-then-invalid_keepout
-returns-then-invalid_keepout c = scan_hit _ _ _ c.loop-i.invariant.1 (omega arith) _ _ c.keepout_at-k.ensures c.invalid_keepout.ensures c.if-invalid_keepout.true
+returns-then-invalid_keepout c =
+    let s = c.in-Some.ensures.steps.1 in
+    left_hit c.loop-k.invariant _ _ s.0 s.1 c.keepout_at.ensures c.invalid_keepout.ensures c.if-invalid_keepout.true
 
-pub loop-i-preserved : goal.loop-i-preserved
-loop-i-preserved c = (omega arith, scan_next _ _ _ c.loop-i.invariant.1 (omega arith) _ _ c.keepout_at-k.ensures c.invalid_keepout.ensures c.if-invalid_keepout.false)
+pub loop-k-preserved : goal.loop-k-preserved
+loop-k-preserved c =
+    let s = c.in-Some.ensures.steps in
+    left_next c.loop-k.invariant _ _ s.1.0 s.1.1 c.keepout_at.ensures c.invalid_keepout.ensures c.if-invalid_keepout.false s.0
 
 pub returns : goal.returns
-returns c = scan_ends _ _ c.loop-i.i c.loop-i.invariant.1 (omega arith)
+returns c = left_none c.loop-k.invariant c.in-None.ensures.steps.1.0

@@ -1,11 +1,8 @@
--- `any_invalid`: the keepouts from i on decide as all of them do.
-use Rattle.std.proofs.Common.{length, ◌-◌, ◌≤◌}
+-- `any_invalid`: the keepouts that are left decide as all of them do.
+use Rattle.std.specs.Slice.Iter.{chunks_exact_rest, chunks_exact_size}
 use Rattle.job.specs.Job.{invalid_keepout}
-use Rattle.search.proofs.Keepouts.{Scan}
+use Rattle.search.proofs.Keepouts.{Left}
 use Rattle.editing.proofs.any_invalid.Given as goal
 
-abbrev pub invariant-loop-i : goal.invariant-loop-i
-invariant-loop-i l = (l.i ≤ length l.ks) × Scan invalid_keepout l.ks l.i
-
-abbrev pub decreases-loop-i : goal.decreases-loop-i
-decreases-loop-i l = length l.ks - l.i
+abbrev pub invariant-loop-k : goal.invariant-loop-k
+invariant-loop-k l = Left invalid_keepout l.ks (chunks_exact_size l.k-iterator) (chunks_exact_rest l.k-iterator)

@@ -1,62 +1,47 @@
 -- `editing::insert_node_on_branch`: 5, then 7 of either name, then 9, then what `splice_at` gives.
-use Rattle.std.proofs.Common.{refl, sym, ◌∙◌}
-use Rattle.job.proofs.Accepted.{within}
+use Rattle.std.proofs.Common.{◌≡◌, Err, sym, ◌∙◌, rules}
+use Rattle.refusal.specs.declared.Refusal.TheVariants.{Outside}
 use Rattle.editing.specs.Edits.{insert_node_on_branch}
 use Rattle.tables.proofs.TableSizes.{of_all}
-use Rattle.editing.proofs.Refusing.{stop, past, lost, there, in_tree, of_kind_lem}
+use Rattle.editing.proofs.Refusing.{stop, past, near, lost, there, in_tree, no_name, with_name, next_name}
 use Rattle.editing.proofs.insert_node_on_branch.Goals as goal
 
 pub returns-then-outside : goal.returns-then-outside
 unfolding insert_node_on_branch
-returns-then-outside c = stop _ _ c.outside.ensures c.if-outside.true c.refuse.ensures
+returns-then-outside c = stop Outside _ c.outside.ensures c.if-outside.true
 
 pub returns-in_default : goal.returns-in_default
 unfolding insert_node_on_branch
-returns-in_default c =
-    past _ _ c.outside.ensures c.if-outside.false
-    (lost _ (of_all c.args.t _ c.find_node.ensures) c.in_default.is c.refuse-in_default.ensures)
+returns-in_default c = past _ _ c.outside.ensures c.if-outside.false (lost _ (of_all c.args.t.now _ c.find_node.ensures) c.in_default.is)
 
 pub returns-in_default-find_node : goal.returns-in_default-find_node
 unfolding insert_node_on_branch
 returns-in_default-find_node c =
     past _ _ c.outside.ensures c.if-outside.false
-    (there _ (of_all c.args.t _ c.find_node.ensures) c.in-Found.is
-    (lost _ (of_all c.args.t _ c.find_node-2.ensures) c.in_default-find_node.is c.refuse-in_default-find_node.ensures))
-
-pub splice_at-requires-clause-addable : goal.splice_at-requires-clause-addable
-splice_at-requires-clause-addable c = record { tabled = c.requires; next = refl; within = within _ (sym c.outside.ensures ∙ c.if-outside.false) }
+    (there _ (of_all c.args.t.now _ c.find_node.ensures) c.in-Some.is
+    (lost _ (of_all c.args.t.now _ c.find_node-2.ensures) c.in_default-find_node.is))
 
 pub splice_at-requires-clause-p_lt_nodes : goal.splice_at-requires-clause-p_lt_nodes
 splice_at-requires-clause-p_lt_nodes c =
-    (in_tree c.args.t _ c.find_node.ensures c.in-Found.is, in_tree c.args.t _ c.find_node-2.ensures c.in-Found-find_node.is)
+    (in_tree c.args.t.now _ c.find_node.ensures c.in-Some.is, in_tree c.args.t.now _ c.find_node-2.ensures c.in-Some-find_node.is)
 
-pub splice_at-requires-in-Terminal-clause-addable : goal.splice_at-requires-in-Terminal-clause-addable
-splice_at-requires-in-Terminal-clause-addable c = record { tabled = c.requires; next = refl; within = within _ (sym c.outside.ensures ∙ c.if-outside.false) }
-
-pub splice_at-requires-in-Terminal-clause-p_lt_nodes : goal.splice_at-requires-in-Terminal-clause-p_lt_nodes
-splice_at-requires-in-Terminal-clause-p_lt_nodes c =
-    (in_tree c.args.t _ c.find_node.ensures c.in-Found.is, in_tree c.args.t _ c.find_node-2.ensures c.in-Found-find_node.is)
-
-pub returns-in-Source : goal.returns-in-Source
+pub returns-in_err-name : goal.returns-in_err-name
 unfolding insert_node_on_branch
-returns-in-Source c =
+returns-in_err-name c =
+    let h : c.from_residual.result ≡ Err c.in_err-name.field-0.0 = search (rules, c.from_residual.ensures) in
     past _ _ c.outside.ensures c.if-outside.false
-    (there _ (of_all c.args.t _ c.find_node.ensures) c.in-Found.is
-    (there _ (of_all c.args.t _ c.find_node-2.ensures) c.in-Found-find_node.is
-    (of_kind_lem _ _ _ c.in-Source.is c.refuse-in-Source.ensures)))
+    (there _ (of_all c.args.t.now _ c.find_node.ensures) c.in-Some.is
+    (there _ (of_all c.args.t.now _ c.find_node-2.ensures) c.in-Some-find_node.is
+    (no_name c.args.t.now c.args.q _ _ c.args.kind _ (sym c.new_name.ensures ∙ c.in_err-name.was) h)))
 
-pub returns-in-Steiner : goal.returns-in-Steiner
-unfolding insert_node_on_branch
-returns-in-Steiner c =
-    past _ _ c.outside.ensures c.if-outside.false
-    (there _ (of_all c.args.t _ c.find_node.ensures) c.in-Found.is
-    (there _ (of_all c.args.t _ c.find_node-2.ensures) c.in-Found-find_node.is
-    (of_kind_lem _ _ _ c.in-Steiner.is c.splice_at.ensures)))
+pub splice_at-requires-clause-addable : goal.splice_at-requires-clause-addable
+splice_at-requires-clause-addable c =
+    record { tabled = c.requires; next = next_name c.args.t.now.arena.counts c.args.kind _ (sym c.new_name.ensures ∙ c.in_ok-name.was); within = near c.outside.ensures c.if-outside.false }
 
-pub returns-in-Terminal : goal.returns-in-Terminal
+pub returns : goal.returns
 unfolding insert_node_on_branch
-returns-in-Terminal c =
+returns c =
     past _ _ c.outside.ensures c.if-outside.false
-    (there _ (of_all c.args.t _ c.find_node.ensures) c.in-Found.is
-    (there _ (of_all c.args.t _ c.find_node-2.ensures) c.in-Found-find_node.is
-    (of_kind_lem _ _ _ c.in-Terminal.is c.splice_at-in-Terminal.ensures)))
+    (there _ (of_all c.args.t.now _ c.find_node.ensures) c.in-Some.is
+    (there _ (of_all c.args.t.now _ c.find_node-2.ensures) c.in-Some-find_node.is
+    (with_name c.args.t.now c.args.q _ _ c.args.kind _ (sym c.new_name.ensures ∙ c.in_ok-name.was) c.splice_at.ensures)))

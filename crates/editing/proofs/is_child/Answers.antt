@@ -1,18 +1,21 @@
 -- `editing::is_child`: the parent as its column has it.
-use Rattle.std.proofs.Common.{get_or, ap, sym, ◌∙◌, arith}
-use lib.Dec.{eqb}
+use Rattle.std.proofs.Common.{ℕ, get_or, refl, ap, sym, ◌∙◌, arith}
 use Rattle.tree.specs.Tree.{Node}
+use Rattle.tree.specs.Memory.{parent_in}
+use Rattle.joining.specs.Store.{parent_from}
 use Rattle.joining.specs.Buffers.{column}
-use Rattle.editing.specs.Edits.{is_child_of}
 use Rattle.tables.proofs.TableSizes.{size}
+use Rattle.joining.proofs.Names.{parent_in-from}
+use Rattle.editing.specs.Edits.{is_child_of}
 use Rattle.editing.proofs.Refusing.{child_is}
 use Rattle.editing.proofs.is_child.Goals as goal
 
 pub returns : goal.returns
 returns c =
-    let t = c.args.t in
+    let t = c.args.t.now in
     let v = c.requires.tabled in
-    let parents = column 0 t.marks in
-    (λ i. eqb ((c.parent_at.ensures ∙ ap (λ j. get_or parents j 0) c.wide-i.ensures) i) c.args.p.0)
-    ∙ child_is _ _ (omega (arith, c.requires.p_lt_nodes.0, v.few))
-    ∙ ap (λ (n : Node). is_child_of c.args.p.0 n.parent) (sym (v.keeps.rows c.args.c.0 (omega (arith, size t, c.requires.p_lt_nodes.1))))
+    c.eq.ensures ∙ child_is _ (λ x y. refl) c.parent_at.result c.args.p
+    ∙ ap (is_child_of c.args.p.0)
+    (ap parent_in c.parent_at.ensures ∙ parent_in-from _
+    ∙ ap (λ (i : ℕ). parent_from (get_or (column 0 t.arena.nodes.marks) i 0)) c.from.ensures
+    ∙ ap (λ (n : Node). n.parent) (sym (v.keeps.rows c.args.c.0 (omega (arith, size t, c.requires.p_lt_nodes.1)))))

@@ -6,6 +6,6 @@ use Rattle.global_router.proofs.from_table.Goals as goal
 
 pub returns : goal.returns
 returns c =
-    let allowed : In32 c.args.t.allowed = search rules in
-    let both = packed c.args.t c.requires c.nodes_of-nodes.result c.nodes_of-nodes.ensures allowed in
+    let allowed : In32 c.args.t.now.allowed = search rules in
+    let both = packed c.args.t.now c.requires c.nodes_of-nodes.result c.nodes_of-nodes.ensures allowed in
     record { is = both.0; stored = both.1 }

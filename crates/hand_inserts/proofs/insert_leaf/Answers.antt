@@ -1,11 +1,10 @@
 -- `hand_inserts::insert_leaf`: a row with path 0 is attached below p.
-use Rattle.tree.specs.Memory.{name_in}
 use Rattle.hand_inserts.proofs.Naming.{may_count}
 use Rattle.hand_inserts.proofs.Leaf.{did_leaf}
 use Rattle.hand_inserts.proofs.insert_leaf.Goals as goal
 
-pub counts_after-requires : goal.counts_after-requires
-counts_after-requires c = may_count c.requires
+pub counts_after-arena-requires : goal.counts_after-arena-requires
+counts_after-arena-requires c = may_count c.requires
 
 pub returns : goal.returns
-returns c = did_leaf (name_in c.args.name) _ c.requires _ c.new_row-row.ensures _ c.attach.ensures _ c.counts_after.ensures
+returns c = did_leaf c.args.name _ c.requires _ c.new_row-row.ensures _ c.attach.ensures.attached _ c.counts_after-arena.ensures

@@ -1,11 +1,7 @@
 -- `inserting::insert_all`: at the head of the loop the columns hold the tree of the terminals so far.
-use Rattle.std.proofs.Common.{◌-◌, length}
-use Rattle.joining.specs.Buffers.{store_in}
+use Rattle.joining.specs.Buffers.{stored}
 use Rattle.inserting.proofs.Turning.{Under}
 use Rattle.inserting.proofs.insert_all.Given as goal
 
 abbrev pub invariant-loop-i : goal.invariant-loop-i
-invariant-loop-i l = Under l.way l.ks l.px l.py l.a l.i l.k (store_in l.points l.path l.marks l.links)
-
-abbrev pub decreases-loop-i : goal.decreases-loop-i
-decreases-loop-i l = length l.px - l.i
+invariant-loop-i l = Under l.way l.ks l.px l.py l.a l.i l.arena.counts (stored l.arena)

@@ -1,21 +1,21 @@
--- `job::read_job`: where the number is 0 all tests were passed; else it is the refusal's.
-use Rattle.std.proofs.Common.{sym, ap, ◌∙◌, arith}
-use Rattle.job.specs.Job.{read_job}
-use Rattle.job.specs.Reading.{reading_of}
-use Rattle.job.specs.declared.ReadAnswer.TheVariants.{Refused, Accepted}
-use Rattle.job.proofs.Verdict.{passed, refused_is}
+-- `job::read_job`: where no test refuses, the job of the file.
+use Rattle.std.proofs.Common.{sym, ap, subst, ◌≡◌, ◌∙◌}
+use Rattle.job.specs.Job.{Job, accepted, job_of}
+use Rattle.job.specs.Reading.{packed, unpacked}
+use Rattle.job.specs.declared.RoutingJob.{RoutingJob}
+use Rattle.job.proofs.Packing.{job-back}
+use Rattle.job.proofs.Verdict.{passed}
 use Rattle.job.proofs.read_job.Goals as goal
 
-pub job_of-j-requires : goal.job_of-j-requires
-job_of-j-requires c = (passed c.args.s.now (omega arith)).few
+pub job_of-requires : goal.job_of-requires
+job_of-requires c = (passed c.args.s.now c.in_ok-tests.ensures).few
 
-pub returns-then-passed : goal.returns-then-passed
-returns-then-passed c =
-    let p = (passed c.args.s.now (omega arith)).is in
-    (λ i. record { answer = Accepted; job = c.job_of-j.ensures i }) ∙ ap reading_of (sym p)
+pub returns-clause-is : goal.returns-clause-is
+returns-clause-is c =
+    let b = c.args.s.now in
+    ap (λ (r : RoutingJob). accepted (unpacked r)) c.job_of.ensures ∙ ap accepted (job-back (job_of b)) ∙ sym c.in_ok-tests.ensures
 
-pub returns : goal.returns
-returns c =
-    let n = c.refusal-n.ensures in
-    let r = refused_is (read_job c.args.s.now) (λ z. omega arith) in
-    (λ i. record { answer = Refused (n i); job = c.no_job-j.ensures i }) ∙ ap reading_of (sym r)
+pub returns-clause-filled : goal.returns-clause-filled
+returns-clause-filled c =
+    let b = c.args.s.now in
+    subst (λ (r : RoutingJob). r ≡ packed (unpacked r)) (sym c.job_of.ensures) (ap packed (sym (job-back (job_of b))))

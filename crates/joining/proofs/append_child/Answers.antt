@@ -13,4 +13,4 @@ appended l p c i e h l' v =
     subst (λ (m : Links). Attached m p c (links_in l')) (λ k. links (x.own k) (x.other 1 (λ n. omega arith) k) (x.other 2 (λ n. omega arith) k)) v
 
 pub returns : goal.returns
-returns c = appended c.args.links.now _ _ _ c.wide-i.ensures c.requires.1 c.attach_last.new.links c.attach_last.ensures
+returns c = appended c.args.links.now _ _ _ c.from.ensures c.requires.1 c.attach_last.new.links c.attach_last.ensures

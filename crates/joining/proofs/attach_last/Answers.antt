@@ -24,4 +24,4 @@ attached l p c i j ei ej hp hc l' d =
     }
 
 pub returns : goal.returns
-returns c = attached c.args.links.now _ _ _ _ c.wide-i.ensures c.wide-j.ensures c.requires.0 c.requires.1 _ c.store_next.ensures
+returns c = attached c.args.links.now _ _ _ _ c.from-i.ensures c.from-j.ensures c.requires.0 c.requires.1 _ c.put.ensures

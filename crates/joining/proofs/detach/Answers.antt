@@ -8,7 +8,7 @@ use Rattle.joining.proofs.Blocks.{column-most, read, put}
 use Rattle.joining.proofs.Backing.{leaves_last, leaves_other}
 use Rattle.joining.proofs.detach.Goals as goal
 
-module _ (l : List ℕ) (p c i j : ℕ) (ei : i ≡ p) (ej : j ≡ c) (hp : p < most_nodes) (hc : c < most_nodes) (v : Detachable (links_in l) p c)
+module _ (l : List ℕ) (p c j : ℕ) (ej : j ≡ c) (hp : p < most_nodes) (hc : c < most_nodes) (v : Detachable (links_in l) p c)
     (l₁ : List ℕ) (d : Put 2 (get_or l (250 + j) 0) (get_or l (500 + j) 0) l l₁) where
   prev : get_or l (250 + j) 0 ≡ get_or (column 1 l) c 0
   prev = read 1 l c hc (omega arith) 0
@@ -19,8 +19,8 @@ module _ (l : List ℕ) (p c i j : ℕ) (ei : i ≡ p) (ej : j ≡ c) (hp : p < 
   nexts : column 2 l₁ ≡ set (column 2 l) (get_or (column 1 l) c 0) (get_or (column 2 l) c 0)
   nexts = cc (d.own, prev, next)
 
-  last : get_or l (500 + j) 0 ≡ no_node → Detached (links_in l) p c (links_in (set l₁ i (get_or l (250 + j) 0)))
-  last e =
+  last : (i : ℕ) → i ≡ p → get_or l (500 + j) 0 ≡ no_node → Detached (links_in l) p c (links_in (set l₁ i (get_or l (250 + j) 0)))
+  last i ei e =
       let x : Put 0 p (get_or l (250 + j) 0) l₁ (set l₁ i (get_or l (250 + j) 0)) = put 0 l₁ p hp (omega arith) _ in
       let lasts : column 0 (set l₁ i (get_or l (250 + j) 0)) ≡ set (column 0 l) p (get_or (column 1 l) c 0) = cc (x.own, d.other 0 (λ n. omega arith), prev) in
       let prevs : column 1 (set l₁ i (get_or l (250 + j) 0)) ≡ column 1 l = cc (x.other 1 (λ n. omega arith), d.other 1 (λ n. omega arith)) in
@@ -35,8 +35,8 @@ module _ (l : List ℕ) (p c i j : ℕ) (ei : i ≡ p) (ej : j ≡ c) (hp : p < 
 
 pub returns-then-after : goal.returns-then-after
 returns-then-after c =
-    last c.args.links.now _ _ _ _ c.wide-i.ensures c.wide-j.ensures c.requires.p_lt_most_nodes.0 c.requires.p_lt_most_nodes.1 c.requires.detachable _ c.store_next.ensures c.if-after.true
+    last c.args.links.now _ _ _ c.from-j.ensures c.requires.p_lt_most_nodes.0 c.requires.p_lt_most_nodes.1 c.requires.detachable _ c.put.ensures _ c.from.ensures c.if-after.true
 
 pub returns : goal.returns
 returns c =
-    other c.args.links.now _ _ _ _ c.wide-i.ensures c.wide-j.ensures c.requires.p_lt_most_nodes.0 c.requires.p_lt_most_nodes.1 c.requires.detachable _ c.store_next.ensures c.if-after.false _ c.store_prev.ensures
+    other c.args.links.now _ _ _ c.from-j.ensures c.requires.p_lt_most_nodes.0 c.requires.p_lt_most_nodes.1 c.requires.detachable _ c.put.ensures c.if-after.false _ c.put-2.ensures

@@ -8,7 +8,7 @@ pub loop-i-init : goal.loop-i-init
 loop-i-init c = sum-none _ _
 
 pub loop-i-preserved : goal.loop-i-preserved
-loop-i-preserved c = sum_more _ _ c.loop-i.invariant (omega arith) c.edge-d.ensures.0 c.edge-d.ensures.1
+loop-i-preserved c = sum_more _ _ c.loop-i.invariant (omega arith) c.edge-sum.ensures.0 c.edge-sum.ensures.1
 
 pub returns : goal.returns
 returns c = sum-all _ _ c.loop-i.invariant (read c.requires).size (omega arith)

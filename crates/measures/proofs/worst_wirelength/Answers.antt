@@ -1,7 +1,12 @@
 -- `measures::worst_wirelength`: from the source, with as many levels as there are nodes.
+use Rattle.std.proofs.Common.{ap, ◌∙◌, arith}
+use Rattle.tree.specs.Measures.{worst_below}
+use Rattle.measures.specs.Standing.{nodes_in}
 use Rattle.measures.proofs.Longest.{from_source}
 use Rattle.measures.proofs.Lent.{read}
 use Rattle.measures.proofs.worst_wirelength.Goals as goal
 
 pub returns : goal.returns
-returns c = (from_source (read c.requires) c.worst_below.ensures.0, c.worst_below.ensures.1)
+returns c =
+    let w = c.worst_below.ensures in
+    (from_source (read c.requires) (w.0 ∙ (λ i. worst_below (nodes_in c.args.arena.now) (c.from.ensures i) 0)), omega (arith, w.1, c.from.ensures))

@@ -4,12 +4,12 @@ use Rattle.nearest.proofs.Standing.{summed_columns}
 use Rattle.nearest.proofs.Joining.{in_columns, joins-there}
 use Rattle.nearest.proofs.find_join.Goals as goal
 
-pub find_nearest-near-requires : goal.find_nearest-near-requires
-find_nearest-near-requires c = summed_columns c.requires
+pub find_nearest-requires : goal.find_nearest-requires
+find_nearest-requires c = summed_columns c.requires
 
-pub join_on-j-requires : goal.join_on-j-requires
-join_on-j-requires c = let s = c.in-Alone.ensures.sole in in_columns (summed_columns c.requires) s.some s.in_n
+pub join_on-requires : goal.join_on-requires
+join_on-requires c = let s = c.in-Some.ensures.sole in in_columns (summed_columns c.requires) s.some s.in_n
 
-pub returns-in-Alone : goal.returns-in-Alone
-returns-in-Alone c =
-    joins-there c.requires c.args.ks.now (omega arith) c.in-Alone.ensures c.join_on-j.ensures c.found_at.ensures.0 c.found_at.ensures.1
+pub returns-in-Some : goal.returns-in-Some
+returns-in-Some c =
+    joins-there c.requires c.args.ks.now (omega arith) c.in-Some.ensures c.join_on.ensures c.found_at.ensures.0 c.found_at.ensures.1

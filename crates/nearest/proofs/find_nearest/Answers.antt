@@ -6,10 +6,10 @@ use Rattle.nearest.proofs.Standing.{rankable}
 use Rattle.nearest.proofs.Telling.{right}
 use Rattle.nearest.proofs.find_nearest.Goals as goal
 
-pub two_least-l-requires : goal.two_least-l-requires
-two_least-l-requires c = rankable c.requires c.put_distances.ensures
+pub two_least-requires : goal.two_least-requires
+two_least-requires c = rankable c.requires c.put_distances.ensures
 
 pub returns : goal.returns
 returns c =
     let f : In32 c.args.query.allowed = search rules in
-    right c.args.query c.requires c.put_distances.ensures _ (allowed-yes _ f c.if-query-lt0.false) c.two_least-l.ensures c.tell.result c.tell.ensures
+    right c.args.query c.requires c.put_distances.ensures _ (allowed-yes _ f c.if-query-lt0.false) c.two_least.ensures c.alone.result c.alone.ensures

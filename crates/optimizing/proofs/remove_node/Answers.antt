@@ -1,64 +1,82 @@
 -- `optimizing::remove_node`: the child takes the node's place at the parent, and the columns close up.
-use Rattle.std.proofs.Common.{ℕ, ◌≡◌, ◌<◌, ◌≤◌, List, ℤ, get_or, arith, subst}
+use Rattle.std.proofs.Common.{ℕ, ◌≡◌, ◌<◌, Option, Some, get_or, arith, ap, sym, subst, refl, ◌∙◌}
+use Rattle.std.specs.Prelude.{IsSome}
 use Rattle.tree.specs.Limits.{most_nodes}
+use Rattle.tree.specs.declared.NodeIndex.{NodeIndex}
+use Rattle.joining.specs.declared.Arena.{Arena}
 use Rattle.joining.specs.declared.Counts.{Counts}
 use Rattle.joining.specs.Links.{Links}
-use Rattle.joining.specs.Store.{Store, store, rows_of}
-use Rattle.joining.specs.Buffers.{column, links_in, store_in, Put}
-use Rattle.joining.proofs.Blocks.{column-most, read}
-use Rattle.removing.specs.Store.{Bypassable, StoreClosed}
+use Rattle.joining.specs.Store.{Rows, Store, store, index_from, link_in}
+use Rattle.joining.specs.Buffers.{column, links_in, stored}
+use Rattle.joining.proofs.Blocks.{column-most}
+use Rattle.removing.specs.Store.{Bypassable, StoreClosed, one_fewer}
+use Rattle.removing.proofs.Testing.{index_is, index_given}
 use Rattle.joining.specs.Standing.{Stands}
 use Rattle.optimizing.specs.Removal.{LoneIn}
 use Rattle.optimizing.proofs.Tidying.{in_columns, may_bypass, may_close, did_remove}
 use Rattle.optimizing.proofs.remove_node.Goals as goal
 
-module _ (points : List ℤ) (path marks links : List ℕ) (k : Counts) (i : ℕ) (v : Stands (LoneIn i) k (store_in points path marks links)) where
-  in_most : i < most_nodes
-  in_most = omega (arith, in_columns v, column-most 0 points)
+module _ (a : Arena) (i : NodeIndex) (v : Stands (LoneIn i.0) a.counts (stored a)) where
+  in_most : i.0 < most_nodes
+  in_most = omega (arith, in_columns v, column-most 0 a.nodes.points)
+
+  b : Bypassable i.0 (get_or (column 0 a.nodes.marks) i.0 0) (get_or (column 0 a.links) i.0 0) (column 0 a.nodes.marks) (links_in a.links)
+  b = may_bypass i.0 a.counts (stored a) v _ _ refl refl
 
   -- what is read of node i, whose index is x
-  module _ {x : ℕ} (e : x ≡ i) where
-    above : get_or marks x 0 ≡ get_or (column 0 marks) i 0
-    above = read 0 marks i in_most (omega (arith, e)) 0
+  module _ {x : ℕ} (e : x ≡ i.0) where
+    above : {r : Option NodeIndex} → r ≡ index_from (get_or (column 0 a.nodes.marks) x 0) → r ≡ index_from (get_or (column 0 a.nodes.marks) i.0 0)
+    above h = h ∙ ap (λ (y : ℕ). index_from (get_or (column 0 a.nodes.marks) y 0)) e
 
-    below : get_or links x 0 ≡ get_or (column 0 links) i 0
-    below = read 0 links i in_most (omega (arith, e)) 0
+    below : {r : Option NodeIndex} → r ≡ index_from (get_or (column 0 a.links) x 0) → r ≡ index_from (get_or (column 0 a.links) i.0 0)
+    below h = h ∙ ap (λ (y : ℕ). index_from (get_or (column 0 a.links) y 0)) e
 
-    goes_past : Bypassable i (get_or marks x 0) (get_or links x 0) (column 0 marks) (links_in links)
-    goes_past = may_bypass _ _ (store_in points path marks links) v _ _ above below
+    has_parent : {r : Option NodeIndex} → r ≡ index_from (get_or (column 0 a.nodes.marks) x 0) → IsSome r
+    has_parent h = index_given _ (omega (arith, b.in_p, column-most 0 a.nodes.marks)) (above h)
 
-    closes : (n : ℕ) → n ≡ k.nodes → (i < n) × (n ≤ most_nodes)
-    closes n f = let w = may_close _ _ (store_in points path marks links) v _ _ above below n f in (w.0, omega (arith, w.1, column-most 0 points))
+    has_child : {r : Option NodeIndex} → r ≡ index_from (get_or (column 0 a.links) x 0) → IsSome r
+    has_child h = index_given _ (omega (arith, b.in_c, column-most 0 a.nodes.marks)) (below h)
 
--- kinds and numbers are as they were when the columns close up
-closed_from : (points : List ℤ) (path : List ℕ) {marks marks₁ : List ℕ} {l : Links} {c p n i : ℕ} {s₂ : Store} → Put 0 c p marks marks₁
-    → StoreClosed n i (store (rows_of (column 0 points) (column 1 points) path (column 0 marks₁) (column 1 marks₁) (column 2 marks₁)) l) s₂
-    → StoreClosed n i (store (rows_of (column 0 points) (column 1 points) path (column 0 marks₁) (column 1 marks) (column 2 marks)) l) s₂
-closed_from points path {marks₁ = marks₁} {l = l} {n = n} {i = i} {s₂ = s₂} p q =
-    subst (λ (x : Store). StoreClosed n i x s₂)
-    (λ j. store (rows_of (column 0 points) (column 1 points) path (column 0 marks₁) (p.other 1 (λ d. omega arith) j) (p.other 2 (λ d. omega arith) j)) l) q
+    parent_is : {r : Option NodeIndex} (p : NodeIndex) → r ≡ index_from (get_or (column 0 a.nodes.marks) x 0) → r ≡ Some p → p.0 ≡ get_or (column 0 a.nodes.marks) i.0 0
+    parent_is p h k = index_is _ (sym k ∙ above h)
 
-pub bounds-marks-at : goal.bounds-marks-at
-bounds-marks-at c = let a = c.args in omega (arith, c.wide-at.ensures, in_most a.points.now a.path.now a.marks.now a.links.now _ _ c.requires)
+    child_is : {r : Option NodeIndex} (c : NodeIndex) → r ≡ index_from (get_or (column 0 a.links) x 0) → r ≡ Some c → c.0 ≡ get_or (column 0 a.links) i.0 0
+    child_is c h k = index_is _ (sym k ∙ below h)
 
-pub bounds-links-at : goal.bounds-links-at
-bounds-links-at c = let a = c.args in omega (arith, c.wide-at.ensures, in_most a.points.now a.path.now a.marks.now a.links.now _ _ c.requires)
+closed_from : {n i : ℕ} {r r' : Rows} {l : Links} {s : Store} → r ≡ r' → StoreClosed n i (store r l) s → StoreClosed n i (store r' l) s
+closed_from {n = n} {i = i} {l = l} {s = s} e h = subst (λ (x : Rows). StoreClosed n i (store x l) s) e h
 
--- c by its bounds alone, which i has too: which node takes the place is for `returns`
+pub parent_at-requires : goal.parent_at-requires
+parent_at-requires c = omega (arith, c.from-at.ensures, in_most c.args.arena.now c.args.i c.requires)
+
+pub unwrap-p-requires : goal.unwrap-p-requires
+unwrap-p-requires c = has_parent c.args.arena.now c.args.i c.requires c.from-at.ensures c.parent_at.ensures
+
+pub last_child-requires : goal.last_child-requires
+last_child-requires c = omega (arith, c.from-at.ensures, in_most c.args.arena.now c.args.i c.requires)
+
+pub unwrap-c-requires : goal.unwrap-c-requires
+unwrap-c-requires c = has_child c.args.arena.now c.args.i c.requires c.from-at.ensures c.last_child.ensures
+
 pub bypass-requires : goal.bypass-requires
 bypass-requires c =
-    let a = c.args in
-    let b = goes_past a.points.now a.path.now a.marks.now a.links.now _ _ c.requires c.wide-at.ensures in
-    record { sized = b.sized; in_i = b.in_i; in_p = b.in_p; in_c = omega arith; linked = b.linked; has = b.has; backed = b.backed }
+    let p = parent_is c.args.arena.now c.args.i c.requires c.from-at.ensures c.unwrap-p.result c.parent_at.ensures c.unwrap-p.ensures in
+    let d = child_is c.args.arena.now c.args.i c.requires c.from-at.ensures c.unwrap-c.result c.last_child.ensures c.unwrap-c.ensures in
+    may_bypass c.args.i.0 _ (stored c.args.arena.now) c.requires _ _ p d
 
 pub close_up-requires : goal.close_up-requires
-close_up-requires c = let a = c.args in closes a.points.now a.path.now a.marks.now a.links.now _ _ c.requires c.wide-at.ensures _ c.wide-n.ensures
+close_up-requires c =
+    let a = c.args.arena.now in
+    let p = parent_is c.args.arena.now c.args.i c.requires c.from-at.ensures c.unwrap-p.result c.parent_at.ensures c.unwrap-p.ensures in
+    let d = child_is c.args.arena.now c.args.i c.requires c.from-at.ensures c.unwrap-c.result c.last_child.ensures c.unwrap-c.ensures in
+    let w = may_close c.args.i.0 a.counts (stored a) c.requires _ _ p d _ (ap (λ (k : Counts). k.nodes) c.bypass.ensures.counts) in
+    (w.0, omega (arith, w.1, column-most 0 a.nodes.points))
 
 pub returns : goal.returns
 returns c =
-    let a = c.args in
-    let p = above a.points.now a.path.now a.marks.now a.links.now _ _ c.requires c.wide-at.ensures in
-    let q = below a.points.now a.path.now a.marks.now a.links.now _ _ c.requires c.wide-at.ensures in
+    let a = c.args.arena.now in
     let o = c.bypass.ensures in
-    did_remove _ _ (store_in a.points.now a.path.now a.marks.now a.links.now) c.requires _ _ p q _ _ (record { links = o.1; parents = o.0.own }) _ c.wide-n.ensures _
-    (closed_from a.points.now a.path.now o.0 c.close_up.ensures) _ c.one_fewer.ensures
+    let p = parent_is c.args.arena.now c.args.i c.requires c.from-at.ensures c.unwrap-p.result c.parent_at.ensures c.unwrap-p.ensures in
+    let d = child_is c.args.arena.now c.args.i c.requires c.from-at.ensures c.unwrap-c.result c.last_child.ensures c.unwrap-c.ensures in
+    did_remove c.args.i.0 a.counts (stored a) c.requires _ _ p d _ _ (record { links = o.links; parents = refl }) _ (ap (λ (k : Counts). k.nodes) o.counts) _
+    (closed_from o.rows c.close_up.ensures.closed) _ (c.close_up.ensures.counts ∙ ap one_fewer o.counts)

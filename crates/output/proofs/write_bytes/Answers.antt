@@ -6,4 +6,4 @@ pub returns-then-out-s : goal.returns-then-out-s
 returns-then-out-s c = too_long _ c.if-out-s.true
 
 pub returns : goal.returns
-returns c = whole _ c.if-out-s.false c.put_bytes.ensures
+returns c = whole _ c.if-out-s.false c.put_all.ensures

@@ -1,10 +1,7 @@
--- `rectangles::gather`: the rectangles before i are gathered.
-use Rattle.std.proofs.Common.{◌-◌, ◌≤◌, length, take}
+-- `rectangles::gather`: the rectangles before this one are gathered.
+use Rattle.std.proofs.Common.{take}
 use Rattle.rectangles.specs.Rectangles.{Gathers}
 use Rattle.rectangles.proofs.gather.Given as goal
 
-abbrev pub invariant-loop-i : goal.invariant-loop-i
-invariant-loop-i l = record { within : l.i ≤ length l.ks; so : Gathers (take l.i l.ks) l.f }
-
-abbrev pub decreases-loop-i : goal.decreases-loop-i
-decreases-loop-i l = length l.ks - l.i
+abbrev pub invariant-loop-k : goal.invariant-loop-k
+invariant-loop-k l = Gathers (take l.k-index l.ks) l.f

@@ -4,4 +4,4 @@ use Rattle.removing.proofs.Moving.{at-index, links-closed}
 use Rattle.removing.proofs.close_links.Goals as goal
 
 pub returns : goal.returns
-returns c = links-closed _ _ _ _ _ _ (omega (arith, c.requires.0)) c.requires.0 (at-index c.wide-at.ensures c.close_u16.ensures) c.lower_links.ensures
+returns c = links-closed _ _ _ _ _ _ (omega (arith, c.requires.0)) c.requires.0 (at-index c.from.ensures (c.close_gap.ensures 0)) c.lower_links.ensures

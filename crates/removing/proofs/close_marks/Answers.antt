@@ -7,10 +7,10 @@ use Rattle.removing.proofs.close_marks.Goals as goal
 
 pub returns : goal.returns
 returns c =
-    let e = c.wide-at.ensures in
+    let e = c.from-at.ensures in
     let x = c.close_links in
-    let y = c.close_u16 in
-    let z = c.close_u16-2 in
-    let r = three (LinksClosed _ _) (GapClosed 0 _ _) c.args.marks.now x.new.col y.new.numbers (omega (arith, c.requires.marks_len)) x.ensures.size y.ensures.size x.ensures (at-index e y.ensures)
-    (GapClosed 0 _ _) z.new.numbers (omega (arith, c.requires.marks_len)) z.ensures.size (at-index e z.ensures) in
+    let y = c.close_gap in
+    let z = c.close_gap-2 in
+    let r = three (LinksClosed _ _) (GapClosed 0 _ _) c.args.marks.now x.new.col y.new.column (omega arith) x.ensures.size (y.ensures 0).size x.ensures (at-index e (y.ensures 0))
+    (GapClosed 0 _ _) z.new.column (omega arith) (z.ensures 0).size (at-index e (z.ensures 0)) in
     record { parents = r.0; kinds = r.1.0; numbers = r.1.1 }

@@ -6,7 +6,7 @@ use Rattle.removing.proofs.close_points.Goals as goal
 
 pub returns : goal.returns
 returns c =
-    let x = c.close_i32 in
-    let y = c.close_i32-2 in
-    let r = two (GapClosed (pos 0) _ _) (GapClosed (pos 0) _ _) c.args.points.now x.new.coords y.new.coords (omega (arith, c.requires.points_len)) x.ensures.size y.ensures.size x.ensures y.ensures in
+    let x = c.close_gap in
+    let y = c.close_gap-2 in
+    let r = two (GapClosed (pos 0) _ _) (GapClosed (pos 0) _ _) c.args.points.now x.new.column y.new.column (omega arith) (x.ensures (pos 0)).size (y.ensures (pos 0)).size (x.ensures (pos 0)) (y.ensures (pos 0)) in
     record { xs = r.0; ys = r.1 }

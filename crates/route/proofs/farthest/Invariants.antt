@@ -1,9 +1,6 @@
--- `route::farthest`: from the last terminal down.
+-- `route::farthest`: w, and the terminals that are left.
 use Rattle.route.proofs.Scanning.{Scanned}
 use Rattle.route.proofs.farthest.Given as goal
 
 abbrev pub invariant-loop-i : goal.invariant-loop-i
 invariant-loop-i l = Scanned l.px l.py l.s l.w l.i
-
-abbrev pub decreases-loop-i : goal.decreases-loop-i
-decreases-loop-i l = l.i

@@ -1,9 +1,16 @@
--- `route_table`: the answer of the job that was read, and its plan.
-use Rattle.route.proofs.Answers.{sound, tables}
+-- `route_table`: the refusal, or the tree of the job that was read.
+use Rattle.std.proofs.Common.{◌≡◌, Err, rules, ap, ◌∙◌}
+use Rattle.route.specs.Tables.{routing_in}
+use Rattle.route.proofs.Reading.{sound, routed_is, refused_is}
 use Rattle.route.proofs.route_table.Goals as goal
 
-pub planned-t-requires : goal.planned-t-requires
-planned-t-requires c = sound _ c.read_job-reading.ensures
+pub returns-in_err-job-clause-is : goal.returns-in_err-job-clause-is
+returns-in_err-job-clause-is c =
+    let e : c.from_residual.result ≡ Err c.in_err-job.field-0.0 = search rules in
+    ap routing_in e ∙ refused_is c.args.bytes.now c.in_err-job.ensures.is
 
-pub returns : goal.returns
-returns c = tables _ c.read_job-reading.ensures _ c.planned-t.ensures.is c.planned-t.ensures.tabled
+pub planned-requires : goal.planned-requires
+planned-requires c = sound c.args.bytes.now c.in_ok-job.ensures.is c.in_ok-job.ensures.filled
+
+pub returns-clause-is : goal.returns-clause-is
+returns-clause-is c = routed_is c.args.bytes.now c.in_ok-job.job c.in_ok-job.ensures.is c.planned.ensures.is

@@ -1,21 +1,19 @@
--- `search::blocked`: the keepouts from i on decide as all of them do.
-use Rattle.std.proofs.Common.{refl, arith}
+-- `search::blocked`: the keepouts that are left decide as all of them do.
 use Rattle.tree.specs.Search.{blocked}
-use Rattle.search.proofs.Keepouts.{scan_hit, scan_next, scan_ends}
+use Rattle.search.proofs.Keepouts.{left_hit, left_next, left_none}
 use Rattle.search.proofs.blocked.Goals as goal
-
-pub loop-i-init : goal.loop-i-init
-loop-i-init c = (omega arith, refl)
-
-pub loop-i-preserved : goal.loop-i-preserved
-loop-i-preserved c =
-    (omega arith, scan_next _ _ _ c.loop-i.invariant.1 c.loop-i-test.true _ _ c.keepout_at-k.ensures c.stops_branch.ensures c.if-stops_branch.false)
 
 pub returns-then-stops_branch : goal.returns-then-stops_branch
 unfolding blocked
 returns-then-stops_branch c =
-    scan_hit _ _ _ c.loop-i.invariant.1 c.loop-i-test.true _ _ c.keepout_at-k.ensures c.stops_branch.ensures c.if-stops_branch.true
+    let s = c.in-Some.ensures.steps.1 in
+    left_hit c.loop-k.invariant _ _ s.0 s.1 c.keepout_at.ensures c.stops_branch.ensures c.if-stops_branch.true
+
+pub loop-k-preserved : goal.loop-k-preserved
+loop-k-preserved c =
+    let t = c.in-Some.ensures.steps in
+    left_next c.loop-k.invariant _ _ t.1.0 t.1.1 c.keepout_at.ensures c.stops_branch.ensures c.if-stops_branch.false t.0
 
 pub returns : goal.returns
 unfolding blocked
-returns c = scan_ends _ _ _ c.loop-i.invariant.1 c.loop-i-test.false
+returns c = left_none c.loop-k.invariant c.in-None.ensures.steps.1.0

@@ -1,5 +1,5 @@
 -- `search::judge_at`: the numbers of the branch are the definition's, so the take and what is kept are.
-use Rattle.std.proofs.Common.{◌∙◌, arith}
+use Rattle.std.proofs.Common.{refl, ◌∙◌, arith}
 use Rattle.geometry.specs.Laws.{dist-small}
 use Rattle.search.proofs.Judging.{judged-yes, judged_no}
 use Rattle.search.proofs.judge_at.Goals as goal
@@ -18,12 +18,12 @@ overflow_add-l-2 c =
       dist-small c.requires.within c.requires.near.within,
     )
 
-pub returns-then-takes : goal.returns-then-takes
-returns-then-takes c =
-    judged-yes _ _ _ _ _ _ _ _ _ c.requires.d_value c.distance-e.ensures c.is_allowed-w.ensures c.takes.ensures _ _ c.if-takes.true
-    c.join_at-j.ensures c.either-v.ensures
+pub returns-then-not-takes : goal.returns-then-not-takes
+returns-then-not-takes c =
+    c.untaken.ensures
+    ∙ judged_no _ _ _ _ _ _ _ _ _ c.requires.d_value c.distance-e.ensures c.allows-w.ensures c.takes.ensures c.if-not-takes.true
 
 pub returns : goal.returns
 returns c =
-    c.untaken.ensures
-    ∙ judged_no _ _ _ _ _ _ _ _ _ c.requires.d_value c.distance-e.ensures c.is_allowed-w.ensures c.takes.ensures c.if-takes.false
+    judged-yes _ _ _ _ _ _ _ _ _ c.requires.d_value c.distance-e.ensures c.allows-w.ensures c.takes.ensures _ _ c.if-not-takes.false
+    c.join_at.ensures refl

@@ -31,6 +31,7 @@ overflow_mul-result-2 c = omega (arith, dist-small c.requires.0 c.requires.1, be
 pub overflow_add-result-2 : goal.overflow_add-result-2
 overflow_add-result-2 c = omega (arith, dist-small c.requires.0 c.requires.1, below)
 
+-- the search finds this too, but refuses a wrong body only by a limit of its own
 pub returns : goal.returns
 unfolding key_of
 returns c = omega (arith, measured)

@@ -1,22 +1,18 @@
 -- `tables::node_at`: each field from its column.
-use Rattle.std.proofs.Common.{◌+◌, get_or, arith, ◌∙◌}
+use Rattle.std.proofs.Common.{get_or, ap, ◌∙◌}
 use Rattle.tree.specs.Tree.{zero_figure}
-use Rattle.joining.specs.Store.{name_from, parent_from}
-use Rattle.joining.proofs.Blocks.{read}
+use Rattle.tree.specs.Memory.{name_in, parent_in}
+use Rattle.joining.proofs.Names.{parent_in-from}
 use Rattle.tables.proofs.node_at.Goals as goal
 
 pub returns : goal.returns
 returns c =
-    let l = c.args.marks.now in
-    let parent = read 0 l c.args.i c.requires {n = c.args.i} (omega arith) 0 in
-    let kind = read 1 l c.args.i c.requires {n = 250 + c.args.i} (omega arith) 0 in
-    let number = read 2 l c.args.i c.requires {n = 500 + c.args.i} (omega arith) 0 in
     λ cs i. record {
-      name = (c.name_of-n.ensures ∙ (λ j. name_from (kind j) (number j))) i;
-      parent = (c.parent_of-p.ensures ∙ (λ j. parent_from (parent j))) i;
-      point = c.point_at-pt.ensures i;
+      name = name_in (c.name_at.ensures i);
+      parent = (ap parent_in c.parent_at.ensures ∙ parent_in-from _) i;
+      point = c.point_at.ensures i;
       children = cs;
-      path = get_or c.args.path.now c.args.i 0;
+      path = get_or c.args.rows.now.path c.args.i 0;
       capacitance = zero_figure;
       delay = zero_figure;
     }

@@ -4,4 +4,4 @@ use Rattle.tables.proofs.Packing.{packs_more}
 use Rattle.tables.proofs.pack.Goals as goal
 
 pub loop-i-preserved : goal.loop-i-preserved
-loop-i-preserved c = (omega arith, packs_more _ _ _ _ (omega arith) c.loop-i.invariant.1 c.node_at.ensures)
+loop-i-preserved c = packs_more _ _ _ _ (omega arith) c.loop-i.invariant c.node_at.ensures

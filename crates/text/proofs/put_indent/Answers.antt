@@ -1,14 +1,15 @@
--- `text::put_indent`: what is left is the indent of the levels that are left.
-use Rattle.std.proofs.Common.{arith}
-use Rattle.wire.specs.Puts.{left-all, left_less, left-none}
-use Rattle.text.proofs.Lines.{indent_step, indent-none}
+-- `text::put_indent`: the indent of the levels so far stands.
+use Rattle.std.proofs.Common.{ap, arith}
+use Rattle.wire.specs.Puts.{puts_as, puts_none, puts_then}
+use Rattle.text.specs.Text.{indent}
+use Rattle.text.proofs.Lines.{indent-none, indent_more}
 use Rattle.text.proofs.put_indent.Goals as goal
 
 pub loop-k-init : goal.loop-k-init
-loop-k-init c = left-all _ _ _ (omega arith) (omega arith)
+loop-k-init c = puts_as (puts_none _ _ (omega arith) (omega arith)) indent-none
 
 pub loop-k-preserved : goal.loop-k-preserved
-loop-k-preserved c = left_less c.loop-k.invariant (indent_step _ c.loop-k-test.true) c.put_bytes-p.ensures
+loop-k-preserved c = puts_as (puts_then c.loop-k.invariant c.put_all-p.ensures) (indent_more c.loop-k.k)
 
 pub returns : goal.returns
-returns c = left-none c.loop-k.invariant (indent-none _ c.loop-k-test.false)
+returns c = puts_as c.loop-k.invariant (ap indent (omega (arith, c.loop-k.auto.k-end)))

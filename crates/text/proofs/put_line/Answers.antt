@@ -14,8 +14,8 @@ returns c =
     (puts_then
     (puts_then
     (puts_then
-    (puts_then (puts_then c.put_indent-p1.ensures c.put_name-p2.ensures) c.put_bytes-p3.ensures)
+    (puts_then (puts_then c.put_indent-p1.ensures c.put_name-p2.ensures) c.put_all-p3.ensures)
     (puts_as c.put_i32-p4.ensures (ap int_text (to_z-of_z x))))
-    c.put_bytes-p5.ensures)
+    c.put_all-p5.ensures)
     (puts_as c.put_i32-p6.ensures (ap int_text (to_z-of_z y))))
-    c.put_bytes.ensures
+    c.put_all.ensures

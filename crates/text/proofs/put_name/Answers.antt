@@ -1,13 +1,25 @@
 -- `text::put_name`: by kind, the head and the number.
+use Rattle.std.proofs.Common.{ℕ, ◌++◌, ap, sym, ◌∙◌}
+use Rattle.decimal.specs.Decimal.{decimal_of}
+use Rattle.decimal.specs.Text.{bytes}
+use Rattle.tree.specs.Memory.{name_in}
+use Rattle.tree.specs.declared.NodeName.{NodeName}
 use Rattle.wire.specs.Puts.{puts_as, puts_then}
-use Rattle.text.proofs.Lines.{head_source, head_steiner, head_terminal}
+use Rattle.text.specs.Text.{head_of}
 use Rattle.text.proofs.put_name.Goals as goal
 
-pub returns-then-kind-eq-SOURCE : goal.returns-then-kind-eq-SOURCE
-returns-then-kind-eq-SOURCE c = puts_as c.put_bytes.ensures (head_source _ _ c.if-kind-eq-SOURCE.true)
+pub returns-in-Source : goal.returns-in-Source
+unfolding head_of
+returns-in-Source c = puts_as c.put_all.ensures (ap (λ (n : NodeName). head_of (name_in n)) (sym c.in-Source.is))
 
-pub returns-then-kind-eq-STEINER : goal.returns-then-kind-eq-STEINER
-returns-then-kind-eq-STEINER c = puts_as (puts_then c.put_bytes-p.ensures c.put_u32.ensures) (head_steiner _ _ c.if-kind-eq-STEINER.true)
+pub returns-in-Steiner : goal.returns-in-Steiner
+unfolding head_of
+returns-in-Steiner c =
+    puts_as (puts_then c.put_all-p.ensures c.put_u32.ensures)
+    (ap (λ (k : ℕ). bytes "Steiner(steiner_" ++ decimal_of k) c.from.ensures ∙ ap (λ (n : NodeName). head_of (name_in n)) (sym c.in-Steiner.is))
 
-pub returns : goal.returns
-returns c = puts_as (puts_then c.put_bytes-p-2.ensures c.put_u32-2.ensures) (head_terminal _ _ c.if-kind-eq-SOURCE.false c.if-kind-eq-STEINER.false)
+pub returns-in-Terminal : goal.returns-in-Terminal
+unfolding head_of
+returns-in-Terminal c =
+    puts_as (puts_then c.put_all-p-in-Terminal.ensures c.put_u32-in-Terminal.ensures)
+    (ap (λ (k : ℕ). bytes "Terminal(terminal_" ++ decimal_of k) c.from-in-Terminal.ensures ∙ ap (λ (n : NodeName). head_of (name_in n)) (sym c.in-Terminal.is))

@@ -1,10 +1,7 @@
--- `text::write_text`: measured, then refused or written.
-use Rattle.std.proofs.Common.{arith}
-use Rattle.output.proofs.Answering.{refused, written}
+-- `text::write_text`: what the writer writes.
+use Rattle.std.proofs.Common.{rules}
 use Rattle.text.proofs.write_text.Goals as goal
 
-pub returns-then-out-m : goal.returns-then-out-m
-returns-then-out-m c = refused c.put_text-m.ensures _ (omega arith) c.if-out-m.true
-
 pub returns : goal.returns
-returns c = written c.put_text-m.ensures _ (omega arith) c.if-out-m.false c.put_text-r.ensures
+returns c =
+    c.write_measured.ensures _ (record { measures = λ m none p. search (rules, p.met, p.shows, p.leaves); writes = λ r out' p. search (rules, p.met, p.shows, p.leaves) })

@@ -1,22 +1,27 @@
--- `tree_bytes::count_of`: the nodes of the kind before k.
-use Rattle.std.proofs.Common.{◌<◌, arith}
+-- `tree_bytes::count_of`: the nodes of the kind before i.
+use Rattle.std.proofs.Common.{◌≡◌, ◌<◌, rules, refl, ap, arith}
+use Rattle.tree.specs.Memory.{type_number}
 use Rattle.measures.proofs.Lent.{read}
-use Rattle.measures.proofs.KindsOf.{kind_read}
+use Rattle.measures.proofs.KindsOf.{kind_read, same_kind}
 use Rattle.tree_bytes.proofs.Counting.{count_none, count-all, counts_it, leaves_it}
 use Rattle.tree_bytes.proofs.count_of.Goals as goal
-use Rattle.tree_bytes.proofs.count_of.Goals.{then-kind_of-which, else-kind_of-which}
+use Rattle.tree_bytes.proofs.count_of.Goals.{then-eq, else-eq}
 
-pub loop-k-init : goal.loop-k-init
-loop-k-init c = count_none _ _ _
+pub loop-i-init : goal.loop-i-init
+loop-i-init c = count_none _ _ _
 
-pub loop-k-preserved : goal.loop-k-preserved
-loop-k-preserved c =
-    let h : c.loop-k.k < c.args.n = omega arith in
-    let e = kind_read (read c.requires) _ h c.kind_at.ensures c.kind_of.ensures in
-    elim c.if-kind_of-which.branch [
-      | then-kind_of-which w ↦ rw w.m-is (counts_it _ _ _ c.loop-k.invariant h e w.if-kind_of-which.true)
-      | else-kind_of-which w ↦ rw w.m-is (leaves_it _ _ _ c.loop-k.invariant h e w.if-kind_of-which.false)
+pub loop-i-preserved : goal.loop-i-preserved
+loop-i-preserved c =
+    let h : c.loop-i.i < c.args.arena.now.counts.nodes = omega arith in
+    let e = kind_read (read c.requires) _ h refl c.kind_at.ensures in
+    elim c.if-eq.branch [
+      | then-eq w ↦
+          let k : c.kind_at.result ≡ c.args.which = search (rules, c.eq.ensures) in
+          rw w.m-is (counts_it _ _ _ c.loop-i.invariant h e (ap type_number k))
+      | else-eq w ↦
+          let k : (c.kind_at.result ≡ c.args.which → ⊥) = search (rules, c.eq.ensures) in
+          rw w.m-is (leaves_it _ _ _ c.loop-i.invariant h e (λ z. k (same_kind _ _ z)))
     ]
 
 pub returns : goal.returns
-returns c = count-all _ _ _ c.loop-k.invariant (read c.requires).size (omega arith)
+returns c = count-all _ _ _ c.loop-i.invariant (read c.requires).size (omega arith)

@@ -1,12 +1,8 @@
--- `tree_bytes::count_of`: the nodes of the kind before k.
-use Rattle.std.proofs.Common.{◌-◌}
-use Rattle.joining.specs.Store.{nodes_of}
-use Rattle.measures.specs.Standing.{lent}
+-- `tree_bytes::count_of`: the nodes of the kind before i.
+use Rattle.tree.specs.Memory.{type_number}
+use Rattle.measures.specs.Standing.{nodes_in}
 use Rattle.tree_bytes.proofs.Counting.{Counts}
 use Rattle.tree_bytes.proofs.count_of.Given as goal
 
-abbrev pub invariant-loop-k : goal.invariant-loop-k
-invariant-loop-k l = Counts (nodes_of (lent l.points l.path l.marks l.links) l.n) l.n l.which l.k l.m
-
-abbrev pub decreases-loop-k : goal.decreases-loop-k
-decreases-loop-k l = l.n - l.k
+abbrev pub invariant-loop-i : goal.invariant-loop-i
+invariant-loop-i l = Counts (nodes_in l.arena) l.arena.counts.nodes (type_number l.which) l.i l.m

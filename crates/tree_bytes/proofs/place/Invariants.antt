@@ -2,17 +2,16 @@
 use Rattle.std.proofs.Common.{length}
 use Rattle.tree.specs.Tree.{node_at}
 use Rattle.tree.specs.Measures.{place_under}
-use Rattle.search.specs.Columns.{chain}
-use Rattle.joining.specs.Store.{nodes_of}
 use Rattle.joining.specs.Buffers.{column}
-use Rattle.measures.specs.Standing.{lent}
+use Rattle.measures.specs.Standing.{nodes_in}
+use Rattle.measures.specs.Children.{chain_at}
 use Rattle.tree_bytes.proofs.Places.{Steps}
 use Rattle.tree_bytes.proofs.place.Given as goal
 
-abbrev pub invariant-loop-c : goal.invariant-loop-c
-invariant-loop-c l =
-    let ns = nodes_of (lent l.points l.path l.marks l.links) l.n in
-    Steps (column 1 l.links) l.n (place_under ns l.i (node_at ns l.i).parent) l.c l.steps
+abbrev pub invariant-loop-sibling : goal.invariant-loop-sibling
+invariant-loop-sibling l =
+    let ns = nodes_in l.arena in
+    Steps (column 1 l.arena.links) l.arena.counts.nodes (place_under ns l.i (node_at ns l.i).parent) l.sibling l.steps
 
-abbrev pub decreases-loop-c : goal.decreases-loop-c
-decreases-loop-c l = length (chain (column 1 l.links) l.c)
+abbrev pub decreases-loop-sibling : goal.decreases-loop-sibling
+decreases-loop-sibling l = length (chain_at (column 1 l.arena.links) l.sibling)

@@ -14,7 +14,7 @@ returns c =
     (puts_then
     (puts_then
     (puts_then
-    (puts_then c.put_four-p1.ensures c.put_u32-p2.ensures)
+    (puts_then c.put_all-p1.ensures c.put_u32-p2.ensures)
     (puts_as c.put_i32-p3.ensures (ap int32_bytes (to_z-of_z a))))
     (puts_as c.put_u32-p4.ensures (whole-i32 _)))
     (puts_as c.put_u32-p5.ensures (whole-i32 _)))

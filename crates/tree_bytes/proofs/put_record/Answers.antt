@@ -11,6 +11,6 @@ returns c =
     let y : FitsSigned w32 c.args.r.pt.ycoord = search rules in
     puts_then
     (puts_then
-    (puts_then c.put_four-p1.ensures (puts_as c.put_i32-p2.ensures (ap int32_bytes (to_z-of_z x))))
+    (puts_then c.put_all-p1.ensures (puts_as c.put_i32-p2.ensures (ap int32_bytes (to_z-of_z x))))
     (puts_as c.put_i32-p3.ensures (ap int32_bytes (to_z-of_z y))))
     (puts_as c.put_u32.ensures (whole-i32 _))

@@ -6,11 +6,10 @@ use Rattle.tree_bytes.proofs.Fields.{turn_none, turn_more}
 use Rattle.tree_bytes.proofs.put_records.Goals as goal
 
 pub loop-i-init : goal.loop-i-init
-loop-i-init c = (omega arith, puts_as (puts_none _ _ (omega arith) (omega arith)) (turn_none _))
+loop-i-init c = puts_as (puts_none _ _ (omega arith) (omega arith)) (turn_none _)
 
 pub loop-i-preserved : goal.loop-i-preserved
-loop-i-preserved c =
-    (omega arith, puts_as (puts_then c.loop-i.invariant.1 (puts_as c.put_record-p.ensures c.record_at-r.ensures)) (turn_more _ _))
+loop-i-preserved c = puts_as (puts_then c.loop-i.invariant (puts_as c.put_record-p.ensures c.record_at-r.ensures)) (turn_more _ _)
 
 pub returns : goal.returns
-returns c = puts_as c.loop-i.invariant.1 (ap (in_turn _) (omega arith))
+returns c = puts_as c.loop-i.invariant (ap (in_turn _) (omega arith))

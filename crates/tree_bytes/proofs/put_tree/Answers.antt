@@ -1,4 +1,6 @@
--- `tree_bytes::put_tree`: the header, with what the buffers give, and the records.
+-- `tree_bytes::put_tree`: the header, with what the arena gives, and the records. What is allowed goes on as its 32 bits, which are its own.
+use Rattle.std.proofs.Common.{rules, ◌∙◌}
+use Rattle.geometry.specs.Signed.{In32, home}
 use Rattle.wire.specs.Puts.{puts_as, puts_then}
 use Rattle.measures.proofs.Lent.{read}
 use Rattle.tree_bytes.proofs.Whole.{whole}
@@ -6,5 +8,7 @@ use Rattle.tree_bytes.proofs.put_tree.Goals as goal
 
 pub returns : goal.returns
 returns c =
+    let f = c.figures_of-f.ensures in
+    let a : In32 c.args.allowed = search rules in
     puts_as (puts_then c.put_header-p.ensures c.put_records.ensures)
-    (whole (read c.requires) _ _ c.count_of-terminals.ensures c.count_of-steiners.ensures c.total_wirelength-total.ensures.0 c.worst_wirelength-worst.ensures.0)
+    (whole (read c.requires) c.count_of-terminals.ensures c.count_of-steiners.ensures (f.allowed ∙ home a) f.farthest f.total f.worst)

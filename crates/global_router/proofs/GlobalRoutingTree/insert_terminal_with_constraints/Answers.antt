@@ -1,17 +1,22 @@
--- `GlobalRoutingTree::insert_terminal_with_constraints`: what is gathered goes on.
-use Rattle.std.proofs.Common.{ℤ, subst}
+-- `GlobalRoutingTree::insert_terminal_with_constraints`: the edit by the numbers that are gathered is the edit by the list.
+use Rattle.std.proofs.Common.{subst, ◌∙◌}
 use Rattle.geometry.specs.Signed.{home}
+use Rattle.tree.specs.Memory.{keepouts_of}
 use Rattle.rectangles.proofs.Gathering.{few}
-use Rattle.editing.specs.Edits.{insert_terminal_with_constraints}
+use Rattle.editing.specs.Edits.{Edit, insert_terminal_with_constraints}
 use Rattle.global_router.specs.Stored.{tree_of}
 use Rattle.global_router.specs.Editing.{EditedTo}
+use Rattle.global_router.proofs.Gathered.{by_gathered}
 use Rattle.global_router.proofs.GlobalRoutingTree.insert_terminal_with_constraints.Goals as goal
 
-pub insert_with_constraints_gathered-requires : goal.insert_with_constraints_gathered-requires
-insert_with_constraints_gathered-requires c = (c.requires, few c.gather.ensures)
+pub bounds-bounds-requires : goal.bounds-bounds-requires
+bounds-bounds-requires c = few c.gather-gathered.ensures
 
 pub returns : goal.returns
 returns c =
     let a = c.args in
-    subst (λ (z : ℤ). EditedTo (insert_terminal_with_constraints (tree_of a.self) a.point z a.keepouts.now) a.self c.insert_with_constraints_gathered.result) (home c.ranges.allowed_wirelength)
-    (c.insert_with_constraints_gathered.ensures a.keepouts.now c.gather.ensures)
+    let g = tree_of a.self.now in
+    let f = c.insert_terminal_with_constraints_flat in
+    subst (λ (x : Edit). EditedTo x a.self.now f.result f.new.self)
+    ((λ i. insert_terminal_with_constraints g a.point (home c.ranges.allowed_wirelength i) (keepouts_of c.bounds-bounds.result.now))
+    ∙ by_gathered g a.point a.allowed_wirelength c.gather-gathered.ensures c.bounds-bounds.ensures) f.ensures
