@@ -220,7 +220,7 @@ fn stops(k: Rectangle, n: Point, a: Rectangle, b: Rectangle, c: Rectangle) -> bo
 fn is_beside(k: Rectangle, n: Point) -> bool
     ensures { result ≡ beside_of k n }
 {
-    k.xcoord.contains_value(n.xcoord) | k.ycoord.contains_value(n.ycoord)
+    k.xcoord.contains_value(n.xcoord) || k.ycoord.contains_value(n.ycoord)
 }
 
 // One keepout against the branch from p to c, whose nearest point to q is n.
