@@ -64,6 +64,9 @@ def holes(crate):
     """A proof with a hole for each function of the crate, by its path. It goes by the layout of `rt fmt`."""
     texts, owner, cycle = {}, "", ""
     for file in sorted(os.listdir(f"crates/{crate}/src")):
+        # The proofs of a file that a `mod` item names stand in a folder of its name.
+        stem = os.path.splitext(file)[0]
+        inside = "" if stem in ("lib", "main") else f"{stem}/"
         for line in read(f"crates/{crate}/src/{file}").splitlines():
             if told := re.match(r"impl(?:<.*?>)? (?:\w+::)*(\w+)(<.*>)? for (.*?) \{", line):
                 # The proofs' name of such an impl: the type's words, the trait's name, its arguments' words.
@@ -78,7 +81,7 @@ def holes(crate):
                 # Functions that call themselves or one another have one proof together.
                 together = cycle or (told[1] if os.path.isdir(f"crates/{crate}/proofs/+{told[1]}") else "")
                 cycle = ""
-                folder = f"+{together}" if together else owner + told[1]
+                folder = f"+{together}" if together else inside + owner + told[1]
                 module = f"+{together}" if together else folder.replace("/", ".") + ".Statement"
                 spec = os.path.basename(folder) + "_spec"
                 texts[f"proofs/{folder}/Proof.antt"] = (

@@ -1,13 +1,7 @@
 -- A whole number with a sign, `as i32`: what clamping gives, that 2 ^ 31 stands for every larger magnitude, and the two answers of
 -- `signed`. The code makes -n in 64 bits, since 2 ^ 31 is no `i32` and -(2 ^ 31) is one. Assumes nothing.
-use mathlib.Core.Path.{◌≡◌, refl, sym, ap, ◌∙◌}
-use mathlib.Core.Bool.{Bool, true, false, cond}
-use Prim.Native.Nat.{ℕ, zero, suc, ◌-◌, ◌*◌, ◌^◌, ◌≤◌, ◌<◌, min}
-use native.Mathlib.Nat.{mul-one, div-one}
-use native.Mathlib.Omega.{arith}
-use lib.IntN.{ℤ, pos, negsuc, neg_ℤ, ◌-ℤ◌}
+use Rattle.std.proofs.Common.{◌≡◌, refl, sym, ap, ◌∙◌, Bool, true, false, cond, ℕ, zero, suc, ◌-◌, ◌*◌, ◌^◌, ◌≤◌, ◌<◌, min, mul-one, div-one, arith, ℤ, pos, negsuc, neg_ℤ, ◌-ℤ◌, pow_pos}
 use lib.Ieee.{fin, to_signed}
-use lib.Pow.{pow_pos}
 use borrow.Author.Tests.{lt-ltb}
 use mir.Syntax.{Width, w32, w64}
 use mir.Val.{SFits, hbits, to_z, of_z}

@@ -1,8 +1,6 @@
 -- `allowed_of` at the edges of the format, computed: it is total, and the clamp and the NaN rule decide what overflows or is no number.
 -- Assumes nothing.
-use mathlib.Core.Path.{◌≡◌, refl}
-use Prim.Native.Nat.{ℕ}
-use lib.IntN.{ℤ, pos, negsuc}
+use Rattle.std.proofs.Common.{◌≡◌, refl, ℕ, ℤ, pos, negsuc}
 use lib.Ieee.{binary64, of_bits, of_int, mul, to_signed}
 use Rattle.allowance.specs.Allowance.{product, half_up, rounded, allowed_of}
 

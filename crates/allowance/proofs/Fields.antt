@@ -1,18 +1,12 @@
 -- From the fields of a bit pattern to `rounded`: of a pattern that is no NaN's, sign, biased exponent and trailing digits give, by
 -- `magnitude` and `signed`, what its value rounds to. A field of 0 has no leading digit, but then the value is far below a half,
 -- with the digit or without; infinity reads as 2 ^ 1024, which clamps alike. Assumes nothing.
-use mathlib.Core.Path.{◌≡◌, refl, sym, ap, ◌∙◌, subst}
-use mathlib.Core.Bool.{Bool, true, false, not, cond}
-use Prim.Native.Nat.{ℕ, zero, suc, ◌+◌, ◌*◌, ◌/◌, ◌%◌, ◌^◌, ◌<◌}
-use native.Mathlib.Nat.{lt_of_lt_of_le, mul_assoc, mod-lt, pow-suc, pow-succ'}
-use native.Mathlib.Omega.{arith}
-use lib.IntN.{pos}
-use lib.Dec.{T, leb, eqb, lit<, lit≤, eqb→eq}
-use lib.Pow.{pow_pos}
+use Rattle.std.proofs.Common.{◌≡◌, refl, sym, ap, ◌∙◌, subst, Bool, true, false, not, cond, ℕ, zero, suc, ◌+◌, ◌*◌, ◌/◌, ◌%◌, ◌^◌, ◌<◌, lt_of_lt_of_le, mul_assoc, mod-lt, pow-suc, arith, pos, T, leb, eqb, lit<, lit≤, eqb→eq, pow_pos}
+use Rattle.std.proofs.Math.Nat.{pow-succ'}
 use lib.Ieee.{Float, nan, inf, fin, binary64, up, down, odd, fits, is_nan, of_fields, of_bits, to_bits, to_signed}
-use lib.Ieee.Fits.{down_pos}
 use lib.Ieee.Bits.{of_bits-to_bits}
 use lib.Ieee.Exact.{HasValue, odd_sign}
+use lib.Ieee.Fits.{down_pos}
 use Rattle.allowance.specs.Allowance.{half_up, rounded, to_i32}
 use Rattle.allowance.proofs.Half.{half-same, half-none}
 use Rattle.allowance.proofs.Patterns.{only_nan}

@@ -1,11 +1,7 @@
 -- Laws of `half_up`: what it gives is the nearest whole number, halves going up; it depends on the fraction's value alone; and over a
 -- power of two it is what a shift, plus one, halved gives. Assumes nothing.
-use mathlib.Core.Path.{◌≡◌, sym, ap, ◌∙◌}
-use Prim.Native.Nat.{ℕ, suc, ◌+◌, ◌*◌, ◌/◌, ◌^◌, ◌≤◌, ◌<◌}
-use native.Mathlib.Nat.{mul_comm, mul_left_comm, mul-mul-mul_comm, add-mul, pow-suc, pow-succ', div-eq_of_lt, div-lt_iff_lt-mul, le-div_iff_mul-le, add-div_right, div-div-eq-div-mul, mul-div-mul_left, div-mul-le_self, lt-div-mul-add}
-use native.Mathlib.Omega.{arith}
-use lib.Dec.{lit<}
-use lib.Pow.{pow_pos}
+use Rattle.std.proofs.Common.{◌≡◌, sym, ap, ◌∙◌, ℕ, suc, ◌+◌, ◌*◌, ◌/◌, ◌^◌, ◌≤◌, ◌<◌, mul_comm, mul_left_comm, add-mul, pow-suc, div-lt_iff_lt-mul, le-div_iff_mul-le, div-mul-le_self, arith, lit<, pow_pos}
+use Rattle.std.proofs.Math.Nat.{mul-mul-mul_comm, pow-succ', div-eq_of_lt, add-div_right, div-div-eq-div-mul, mul-div-mul_left, lt-div-mul-add}
 use lib.Ieee.Nearest.{div_same}
 use Rattle.allowance.specs.Allowance.{half_up}
 

@@ -1,12 +1,10 @@
 -- Which patterns are a NaN's: with the sign's bit taken off, those above infinity's, 2047 * 2 ^ 52; and all those are one NaN, 0.0 / 0.0.
 -- Assumes nothing.
-use mathlib.Core.Path.{◌≡◌, refl, sym, ◌∙◌}
-use mathlib.Core.Bool.{true, not, false≢true}
-use Prim.Native.Nat.{ℕ, ◌*◌, ◌%◌, ◌^◌, ◌≤◌, ◌<◌}
-use lib.Dec.{T}
-use borrow.Author.Tests.{lt-ltb, le-ltb}
+use Rattle.std.proofs.Common.{◌≡◌, refl, sym, ◌∙◌, true, not, ℕ, ◌*◌, ◌%◌, ◌^◌, ◌≤◌, ◌<◌, T}
+use Rattle.std.proofs.Math.Bool.{false≢true}
 use lib.Ieee.{Float, nan, inf, fin, binary64, is_nan, nan_bits, of_bits, div}
 use lib.Ieee.Bits.{nan_bits_is, nan_bits_above}
+use borrow.Author.Tests.{lt-ltb, le-ltb}
 use Rattle.std.proofs.lemmas.Float.{T_from_false}
 
 -- 0.0 / 0.0, with 0.0 by its bit pattern

@@ -1,11 +1,7 @@
 -- The three ranges of the biased exponent in `magnitude`: below a half the answer is 0, from 2 ^ 31 on it is 2 ^ 31, and between them the
 -- value is q over a power of two, which `half_shift` rounds. Assumes nothing.
-use mathlib.Core.Path.{◌≡◌, sym, ap, ◌∙◌}
-use Prim.Native.Nat.{ℕ, suc, ◌+◌, ◌-◌, ◌*◌, ◌/◌, ◌^◌, ◌≤◌, ◌<◌, min}
-use native.Mathlib.Nat.{le_trans, le_of_eq, lt_of_lt_of_le, mul_assoc, mul-le-mul_right, mul-lt-mul_of_pos_left, le-add_right}
-use native.Mathlib.Omega.{arith}
-use lib.Dec.{lit<}
-use lib.Pow.{pow-add, pow_pos, pow_mono, shl_lt}
+use Rattle.std.proofs.Common.{◌≡◌, sym, ap, ◌∙◌, ℕ, suc, ◌+◌, ◌-◌, ◌*◌, ◌/◌, ◌^◌, ◌≤◌, ◌<◌, min, le_trans, le_of_eq, lt_of_lt_of_le, mul_assoc, mul-le-mul_right, le-add_right, arith, lit<, pow-add, pow_pos, pow_mono, shl_lt}
+use Rattle.std.proofs.Math.Nat.{mul-lt-mul_of_pos_left}
 use Rattle.allowance.specs.Allowance.{half_up}
 use Rattle.allowance.proofs.Half.{half-same, half-none, half-least, half-most, half_shift}
 

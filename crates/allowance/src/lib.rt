@@ -54,7 +54,8 @@ fn magnitude(biased: u64, trailing: u64) -> u64
     }
 }
 
-// A magnitude with a sign, clamped to `i32`.
+// A magnitude with a sign, clamped to `i32`, as the Rust's `as i32` clamps the float. (`as` here: each fits, by the contract and by `min`;
+// `try_from` would test that again.)
 #[tactic(auto, using(crate::proofs::Clamp::clamps))]
 fn signed(negative: bool, size: u64) -> i32
     requires { size ≤ 2 ^ 31 }
@@ -67,7 +68,7 @@ fn signed(negative: bool, size: u64) -> i32
     }
 }
 
-// `p.round() as i32`.
+// `p.round() as i32`, and named after it.
 #[tactic(auto, using(crate::proofs::Fields::from_nan))]
 pub fn round_to_i32(p: f64) -> i32
     ensures { result ≡ to_i32 (rounded p) }

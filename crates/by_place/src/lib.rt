@@ -59,7 +59,7 @@ pub fn figures(job: &[u8]) -> Called
     }
 }
 
-// ---- leaf_calls
+// ---- leaf_calls: each by the name that is called, one line each
 
 pub fn min_dist(a: i32, b: i32) -> u32
     ensures { result ≡ gap a b }

@@ -1,6 +1,5 @@
 -- The texts at the ends of the range, and of 0, computed. Assumes nothing.
-use mathlib.Core.Path.{◌≡◌, refl}
-use lib.IntN.{pos, negsuc}
+use Rattle.std.proofs.Common.{◌≡◌, refl, pos, negsuc}
 use Rattle.decimal.specs.Text.{bytes}
 use Rattle.decimal.specs.Decimal.{digits, decimal_of, int_text}
 

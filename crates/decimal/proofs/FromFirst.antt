@@ -1,12 +1,7 @@
 -- The digits from the first on, as the code writes them, are those of repeated division, as the definition has them: `padded` can also be
 -- taken apart at its last digit, since cutting off the first digit and the last commute. Assumes nothing.
-use mathlib.Core.Path.{◌≡◌, refl, sym, ap, subst, ◌∙◌}
-use mathlib.Core.Logic.{◌⊎◌, inl, inr, ⊎_elim}
-use mathlib.Core.List.{List, [], ◌∷◌, ◌++◌}
-use Prim.Native.Nat.{ℕ, zero, suc, ◌+◌, ◌-◌, ◌*◌, ◌≤◌, ◌<◌, ◌/◌, ◌%◌, ◌^◌}
-use native.Mathlib.Nat.{mod-eq_of_lt, div-div-eq-div-mul, mul-add-mod_self_left, div-add-mod, mod-lt, mul_assoc, pow-succ', one-le-pow}
-use native.Mathlib.Omega.{arith}
-use lib.ListN.{length}
+use Rattle.std.proofs.Common.{◌≡◌, refl, sym, ap, subst, ◌∙◌, ◌⊎◌, inl, inr, ⊎_elim, List, [], ◌∷◌, ◌++◌, ℕ, zero, suc, ◌+◌, ◌-◌, ◌*◌, ◌≤◌, ◌<◌, ◌/◌, ◌%◌, ◌^◌, mod-eq_of_lt, mod-lt, mul_assoc, arith, length}
+use Rattle.std.proofs.Math.Nat.{div-div-eq-div-mul, mul-add-mod_self_left, div-add-mod, pow-succ', one-le-pow}
 use borrow.Author.Tests.{lt-ltb, le-ltb}
 use Rattle.decimal.specs.Decimal.{digits, decimal_of}
 use Rattle.decimal.specs.Padded.{padded, Sized}

@@ -1,13 +1,12 @@
 -- `decimal_of n` is the decimal text of every n below 10 ^ 10: it obeys the rule of repeated division with no bound on the digits; each of
 -- its bytes is a digit; they read back as n; and none leads with a 0 but 0 itself. Each goes by induction on the bound k, since
 -- n / 10 is below 10 ^ k where n is below 10 ^ (k + 1). Assumes nothing.
-use Rattle.std.specs.Prelude.{◌≡◌, ◌⊎◌, Bool, cond, ℕ, zero, suc, ◌+◌, ◌-◌, ◌*◌, ◌≤◌, ◌<◌, ◌/◌, ◌%◌, ◌^◌, get_or}
-use Rattle.std.proofs.Math.Path.{refl}
 use Rattle.std.proofs.Common.{sym, ap, inl, inr, arith, ltb-true, ltb-false}
 use Rattle.std.proofs.Math.Bool.{true, false}
-use mathlib.Core.List.{List, [], ◌∷◌, ◌++◌}
-use Rattle.std.proofs.Math.Nat.{pow-succ'}
 use Rattle.std.proofs.Math.Dec.{ltb}
+use Rattle.std.proofs.Math.Nat.{pow-succ'}
+use Rattle.std.proofs.Math.Path.{refl}
+use Rattle.std.specs.Prelude.{◌≡◌, ◌⊎◌, Bool, cond, ℕ, zero, suc, ◌+◌, ◌-◌, ◌*◌, ◌≤◌, ◌<◌, ◌/◌, ◌%◌, ◌^◌, get_or, List, [], ◌∷◌, ◌++◌}
 use Rattle.decimal.specs.Decimal.{digits, decimal_of}
 
 -- ---- what is said of a text

@@ -43,13 +43,14 @@ fn first_digit(m: u32, unit: u32) -> Digit
     for k in 1..10 {
         n += u32::from(k * u64::from(unit) <= u64::from(m));
     }
+    // `as`: n is at most 9.
     Digit {
         byte: b'0' + (n as u8),
         rest: m - n * unit,
     }
 }
 
-// The last `count` digits of m, which has no more.
+// The last `count` digits of m, which has no more. (An output and its place: see wire, "writing".)
 fn put_digits(out: &mut [u8], at: usize, m: u32, count: usize) -> usize
     requires { (count ≤ 10) × (m < 10 ^ count) }
     ensures { Puts out.old at (padded count m) out.new result }
@@ -76,7 +77,7 @@ fn count_digits(m: u32) -> usize
     MOST_DIGITS
 }
 
-// m in decimal.
+// m in decimal. (Named by the type, as wire's `put_u32`: of a u32 and of an i32 the text is told by two definitions.)
 #[tactic(auto, using(crate::proofs::FromFirst::decimal_is))]
 pub fn put_u32(out: &mut [u8], at: usize, m: u32) -> usize
     ensures { Puts out.old at (decimal_of m) out.new result }

@@ -1,22 +1,14 @@
 -- The refusals of an edit in their order: a test that holds ends the edit, and one that does not passes it on; so with a name that is looked up.
-use Prim.Native.Nat.{ℕ, ◌+◌, ◌≤◌, ◌<◌}
-use mathlib.Core.Path.{◌≡◌, refl, sym, ap, subst, ◌∙◌}
-use mathlib.Core.Bool.{Bool, true, false, not, ◌||◌, cond}
-use mathlib.Core.List.{List, [], ◌∷◌}
-use native.Mathlib.Omega.{arith}
-use lib.Dec.{ltb, eqb}
-use borrow.Author.Tests.{ltb-false, eqb-true}
+use Rattle.std.proofs.Common.{ℕ, ◌+◌, ◌<◌, ◌≡◌, refl, sym, ap, subst, ◌∙◌, Bool, true, false, not, ◌||◌, cond, List, [], ◌∷◌, arith, ltb, eqb, length, ℤ, Option, None, Some, Ok, Err}
 use Rattle.std.proofs.Math.Bool.{or-false}
+use borrow.Author.Tests.{ltb-false, eqb-true}
 use Rattle.std.proofs.lemmas.Bool.{not-false}
 use Rattle.std.proofs.lemmas.Bool.Decides.{nat_tests}
-use lib.ListN.{length}
-use lib.IntN.{ℤ}
 use Rattle.geometry.specs.declared.Point.{Point}
 use Rattle.geometry.specs.Laws.{Within}
-use Rattle.std.specs.Prelude.{Option, None, Some, Result, Ok, Err}
 use Rattle.std.specs.Option.{option_eq}
 use Rattle.refusal.specs.declared.Refusal.{Refusal}
-use Rattle.refusal.specs.declared.Refusal.TheVariants.{NoSuchNode, NewSource}
+use Rattle.refusal.specs.declared.Refusal.TheVariants.{NewSource}
 use Rattle.refusal.specs.Refusals.{number_of}
 use Rattle.tree.specs.Limits.{most_nodes, reach}
 use Rattle.tree.specs.Route.{closest}
@@ -49,22 +41,18 @@ use Rattle.job.proofs.Any.{or_no}
 use Rattle.tables.proofs.TableSizes.{size, few, of_all}
 use Rattle.tables.specs.declared.Table.{Table}
 use Rattle.tables.specs.Nodes.{lookup_of}
-use Rattle.tables.specs.Table.{table_columns, table_tree, Tabled}
+use Rattle.tables.specs.Table.{table_columns, table_tree, Tabled, tabled}
 use Rattle.tables.proofs.Naming.{found-low}
-use Rattle.editing.specs.declared.Insertion.{Insertion}
 use Rattle.editing.specs.Edits as D
 use Rattle.editing.specs.Edits.{refused, inserted, at_node, full, passes, new_names, is_child_of, parent_node, splice_at, splice_kind, join_found}
 use Rattle.table_steps.specs.Steps.{Stepped, steiner_in, new_number, Numbered, Room}
-use Rattle.editing.specs.Editing.{parent_name_of, kind_in, new_name, Edits, passed, overfull}
+use Rattle.editing.specs.Editing.{parent_name_of, kind_in, new_name, passed, overfull}
 
--- ---- tests
-pub refuses : (e : Refusal) → Edits (refused (number_of e)) (Err e)
-refuses e = record { is = refl; tabled = tt }
+-- ---- tests. What is answered is y, which is `edit_of` of the code's answer
+pub stop : (e : Refusal) (x : D.Edit) {b s : Bool} → s ≡ b → s ≡ true → refused (number_of e) ≡ cond b (refused (number_of e)) x
+stop e x h t = rw (sym h ∙ t) refl
 
-pub stop : (e : Refusal) (x : D.Edit) {b s : Bool} → s ≡ b → s ≡ true → Edits (cond b (refused (number_of e)) x) (Err e)
-stop e x h t = rw (sym h ∙ t) (refuses e)
-
-pub past : (n : ℕ) (x : D.Edit) {b s : Bool} {r : Result Insertion Refusal} → s ≡ b → s ≡ false → Edits x r → Edits (cond b (refused n) x) r
+pub past : (n : ℕ) (x : D.Edit) {b s : Bool} {y : D.Edit} → s ≡ b → s ≡ false → y ≡ x → y ≡ cond b (refused n) x
 past n x h e v = rw (sym h ∙ e) v
 
 -- a point that is not refused is near
@@ -73,11 +61,11 @@ near h e = within _ (sym h ∙ e)
 
 -- ---- names
 module _ (f : ℕ → D.Edit) {l : M.Lookup} {x : Option NodeIndex} (h : lookup_of x ≡ l) where
-  pub lost : x ≡ None → Edits (at_node l f) (Err NoSuchNode)
-  lost e = subst (λ (y : M.Lookup). Edits (at_node y f) (Err NoSuchNode)) (ap lookup_of (sym e) ∙ h) (refuses NoSuchNode)
+  pub lost : x ≡ None → refused 7 ≡ at_node l f
+  lost e = ap (λ (y : M.Lookup). at_node y f) (ap lookup_of (sym e) ∙ h)
 
-  pub there : {p : NodeIndex} {r : Result Insertion Refusal} → x ≡ Some p → Edits (f p.0) r → Edits (at_node l f) r
-  there {r = r} e v = subst (λ (y : M.Lookup). Edits (at_node y f) r) (ap lookup_of (sym e) ∙ h) v
+  pub there : {p : NodeIndex} {y : D.Edit} → x ≡ Some p → y ≡ f p.0 → y ≡ at_node l f
+  there e v = v ∙ ap (λ (y : M.Lookup). at_node y f) (ap lookup_of (sym e) ∙ h)
 
 -- a node that a name leads to is in the tree
 pub in_tree : (t : Table) (n : Name) {x : Option NodeIndex} {p : NodeIndex} → lookup_of x ≡ M.lookup (table_tree t).nodes n t.arena.counts.nodes → x ≡ Some p → p.0 < t.arena.counts.nodes
@@ -103,8 +91,8 @@ parent-low t i h D.default l e = let z = ap index (ap lookup_of (sym e) ∙ l) i
 parent-low t i h (D.named n) l e = omega (arith, found-low (table_tree t).nodes n (length (table_tree t).nodes) _ (sym l ∙ ap lookup_of e), size t)
 
 -- the source is
-pub some : {t : Table} → Tabled t → 0 < t.arena.counts.nodes
-some {t} v = omega (arith, v.formed.linked.some, size t)
+pub some : (t : Table) → 0 < t.arena.counts.nodes
+some t = omega (arith, (tabled t).formed.linked.some, size t)
 
 -- ---- the branch
 turned : (a b : ℕ) → eqb a b ≡ eqb b a
@@ -121,16 +109,16 @@ is_child_of_lem p none s h e = never (sym (ap not h) ∙ e)
 is_child_of_lem p (at x) s h e = ap at (sym (eqb-true p x (sym h ∙ not-false s e)))
 
 -- ---- the name of a new node of a kind
-module _ (t : Table) (q : Point) (p c : ℕ) {r : Result Insertion Refusal} where
-  pub no_name : (k : NodeType) (e : Refusal) → new_name t.arena.counts k ≡ Err e → r ≡ Err e → Edits (splice_kind (kind_in k) (table_tree t) q p c) r
-  no_name Source e h f = let g : Err NewSource ≡ r = cc in subst (Edits (refused 9)) g (refuses NewSource)
-  no_name Steiner e h f = absurd (cc)
-  no_name Terminal e h f = absurd (cc)
+module _ (t : Table) (q : Point) (p c : ℕ) where
+  pub no_name : (k : NodeType) (e : Refusal) → new_name t.arena.counts k ≡ Err e → refused (number_of e) ≡ splice_kind (kind_in k) (table_tree t) q p c
+  no_name Source e h = let g : e ≡ NewSource = cc in ap (λ (e : Refusal). refused (number_of e)) g
+  no_name Steiner e h = absurd (cc)
+  no_name Terminal e h = absurd (cc)
 
-  pub with_name : (k : NodeType) (n : NodeName) → new_name t.arena.counts k ≡ Ok n → Edits (splice_at (table_tree t) (name_in n) q p c) r → Edits (splice_kind (kind_in k) (table_tree t) q p c) r
+  pub with_name : (k : NodeType) (n : NodeName) {y : D.Edit} → new_name t.arena.counts k ≡ Ok n → y ≡ splice_at (table_tree t) (name_in n) q p c → y ≡ splice_kind (kind_in k) (table_tree t) q p c
   with_name Source n h v = absurd (cc)
-  with_name Steiner n h v = let e : n ≡ N.Steiner t.arena.counts.steiner = cc in subst (λ (m : NodeName). Edits (splice_at (table_tree t) (name_in m) q p c) r) e v
-  with_name Terminal n h v = let e : n ≡ N.Terminal t.arena.counts.terminal = cc in subst (λ (m : NodeName). Edits (splice_at (table_tree t) (name_in m) q p c) r) e v
+  with_name Steiner n h v = let e : n ≡ N.Steiner t.arena.counts.steiner = cc in v ∙ ap (λ (m : NodeName). splice_at (table_tree t) (name_in m) q p c) e
+  with_name Terminal n h v = let e : n ≡ N.Terminal t.arena.counts.terminal = cc in v ∙ ap (λ (m : NodeName). splice_at (table_tree t) (name_in m) q p c) e
 
 pub next_name : (k : Counts) (kind : NodeType) (n : NodeName) → new_name k kind ≡ Ok n → Next k.steiner.0 k.terminal.0 (name_in n)
 next_name k Source n h = absurd (cc)
@@ -184,11 +172,14 @@ pub room_for : (t : Table) (n : Name) {s : Option SteinerNumber} {b : Bool} → 
 room_for t n es eb e = room t 1 _ (ap (overfull t.arena.counts.nodes 1) (sym es) ∙ sym eb ∙ e)
 
 -- ---- what an edit gives
-pub gives : {t r : Table} {step : Tree → Tree} {n : NodeName} → Stepped step t r → Edits (inserted (name_in n) (step (table_tree t))) (Ok (record { name = n; table = r }))
-gives {n = n} v = record { is = ap (inserted (name_in n)) v.is; tabled = v.tabled }
+pub gives : (n : Name) {t r : Table} {step : Tree → Tree} → Stepped step t r → inserted n (table_tree r) ≡ inserted n (step (table_tree t))
+gives n v = ap (inserted n) v.is
 
 -- ---- a tree in columns, as the search reads it; and its closest node
-module _ {t : Table} (v : Tabled t) where
+module _ (t : Table) where
+  v : Tabled t
+  v = tabled t
+
   pub closest-low : (q : Point) → closest (table_tree t).nodes q (length (table_tree t).nodes) < t.arena.counts.nodes
   closest-low q = omega (arith, closest_in (table_tree t).nodes q v.formed.linked.some (length (table_tree t).nodes) (omega arith), size t)
 
@@ -196,7 +187,7 @@ module _ {t : Table} (v : Tabled t) where
   c = table_columns t
 
   readable : Kept (table_tree t).nodes c.rows.xs c.rows.ys c.rows.path c.last c.prev
-  readable = kept (table_tree t) v.formed (few v) most_nodes c v.sized v.keeps (few v)
+  readable = kept (table_tree t) v.formed (few t) most_nodes c v.sized v.keeps (few t)
 
   module _ (a : Query) (near : Within reach a.point) (n : ℕ) (e : n ≡ t.arena.counts.nodes) where
     pub ready : Ready n a c.rows.xs c.rows.ys c.rows.path c.last c.prev
@@ -206,22 +197,21 @@ module _ {t : Table} (v : Tabled t) where
           size = size t ∙ sym e;
           small = omega (arith, v.few, e);
           kept = readable;
-          tree = walks (table_tree t) v.formed (few v);
+          tree = walks (table_tree t) v.formed (few t);
           within = near;
         }
 
     pub finds : (ks : List ℤ) (r : F.Found) → Joins n a c.rows.xs c.rows.ys c.rows.path c.last c.prev ks r
         → join_of r.join ≡ T.find (T.blocked (keepouts_of ks)) (table_tree t).nodes a.limit a.allowed a.point
-    finds ks r h = (h (table_tree t).nodes (size t ∙ sym e) (walks (table_tree t) v.formed (few v)) readable).join
+    finds ks r h = (h (table_tree t).nodes (size t ∙ sym e) (walks (table_tree t) v.formed (few t)) readable).join
 
 -- the edit with the place that the search finds, with the tree's own limit
-pub found_is : (t : Table) {r : Result Insertion Refusal} (ks : List ℤ) (a : Query) (j : T.Join) → a.limit ≡ t.limit
-    → j ≡ T.find (T.blocked (keepouts_of ks)) (table_tree t).nodes a.limit a.allowed a.point → Edits (join_found (table_tree t) a.point j) r
-    → Edits (join_found (table_tree t) a.point (T.find (T.blocked (keepouts_of ks)) (table_tree t).nodes t.limit a.allowed a.point)) r
-found_is t {r} ks a j l e v =
-    subst (λ (x : T.Join). Edits (join_found (table_tree t) a.point x) r)
-    (e ∙ ap (λ (l : ℕ). T.find (T.blocked (keepouts_of ks)) (table_tree t).nodes l a.allowed a.point) l) v
+pub found_is : (t : Table) (ks : List ℤ) (a : Query) (j : T.Join) {y : D.Edit} → a.limit ≡ t.limit
+    → j ≡ T.find (T.blocked (keepouts_of ks)) (table_tree t).nodes a.limit a.allowed a.point → y ≡ join_found (table_tree t) a.point j
+    → y ≡ join_found (table_tree t) a.point (T.find (T.blocked (keepouts_of ks)) (table_tree t).nodes t.limit a.allowed a.point)
+found_is t ks a j l e v =
+    v ∙ ap (join_found (table_tree t) a.point) (e ∙ ap (λ (l : ℕ). T.find (T.blocked (keepouts_of ks)) (table_tree t).nodes l a.allowed a.point) l)
 
 -- the place that the search finds is in the tree
-pub fits : {t : Table} → Tabled t → (ks : List ℤ) (a : Query) (j : T.Join) → j ≡ T.find (T.blocked (keepouts_of ks)) (table_tree t).nodes a.limit a.allowed a.point → Fits (table_tree t).nodes j
-fits {t} v ks a j e = subst (Fits (table_tree t).nodes) (sym e) (find-fits (table_tree t).nodes v.formed.linked (T.blocked (keepouts_of ks)) a.limit a.allowed a.point)
+pub fits : (t : Table) (ks : List ℤ) (a : Query) (j : T.Join) → j ≡ T.find (T.blocked (keepouts_of ks)) (table_tree t).nodes a.limit a.allowed a.point → Fits (table_tree t).nodes j
+fits t ks a j e = subst (Fits (table_tree t).nodes) (sym e) (find-fits (table_tree t).nodes (tabled t).formed.linked (T.blocked (keepouts_of ks)) a.limit a.allowed a.point)

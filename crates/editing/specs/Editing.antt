@@ -1,5 +1,5 @@
 -- What the edits of a table answer.
-use Rattle.std.specs.Prelude.{ℕ, ◌+◌, ◌≡◌, Bool, false, ◌||◌, ltb, Option, None, Some, Result, Ok, Err, IfOk}
+use Rattle.std.specs.Prelude.{ℕ, ◌+◌, ◌≡◌, Bool, false, ◌||◌, ltb, Option, None, Some, Result, Ok, Err}
 use Rattle.refusal.specs.declared.Refusal.{Refusal}
 use Rattle.refusal.specs.declared.Refusal.TheVariants.{NewSource}
 use Rattle.refusal.specs.Refusals.{number_of}
@@ -11,7 +11,7 @@ use Rattle.tree.specs.declared.NodeName.TheVariants as N
 use Rattle.tree.specs.declared.NodeType.{NodeType}
 use Rattle.tree.specs.declared.NodeType.TheVariants.{Source, Steiner, Terminal}
 use Rattle.joining.specs.declared.Counts.{Counts}
-use Rattle.tables.specs.Table.{table_tree, Tabled}
+use Rattle.tables.specs.Table.{table_tree}
 use Rattle.editing.specs.Edits as D
 use Rattle.editing.specs.declared.Insertion.{Insertion}
 
@@ -32,9 +32,8 @@ edit_of (Ok i) = D.inserted (name_in i.name) (table_tree i.table)
 
 -- ---- what an edit shows
 -- the answer is the edit x. That "the tree value" is "as before" after a refusal is in the type: the table is only lent to be read
-pub record Edits (x : D.Edit) (r : Result Insertion Refusal) : Type 0 where
-  pub is : edit_of r ≡ x
-  pub tabled : IfOk r (λ i. Tabled i.table)
+abbrev pub Edits : D.Edit → Result Insertion Refusal → Type 0
+Edits x r = edit_of r ≡ x
 
 -- the name of a new node of a kind: "9: kind Source for a new node"
 abbrev pub new_name : Counts → NodeType → Result NodeName Refusal

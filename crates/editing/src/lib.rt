@@ -11,7 +11,7 @@ ghost use Rattle.tree.specs.Memory.{name_in, keepouts_of};
 ghost use Rattle.tree.specs.WellFormed.{Fits, new_nodes};
 ghost use Rattle.search.specs.Find.{join_of};
 ghost use Rattle.tables.specs.Nodes.{lookup_of};
-ghost use Rattle.tables.specs.Table.{table_tree, Tabled};
+ghost use Rattle.tables.specs.Table.{table_tree};
 ghost use Rattle.editing.specs.Edits.{attach_at, splice_at, join_found, parent_node, is_child_of, insert_steiner_node, insert_terminal_node, insert_node_on_branch, insert_terminal_with_constraints};
 ghost use Rattle.table_steps.specs.Steps.{steiner_in, Addable, new_number};
 ghost use Rattle.editing.specs.Editing.{parent_name_of, kind_in, new_name, Edits, overfull};
@@ -49,8 +49,7 @@ fn overfull(n: u16, more: u16, number: Option<SteinerNumber>) -> bool
 
 // Whether c's parent is p.
 fn is_child(t: &Table, p: NodeIndex, c: NodeIndex) -> bool
-    requires tabled { Tabled t.now }
-    requires p_lt_nodes { (p.0 < t.now.arena.counts.nodes) × (c.0 < t.now.arena.counts.nodes) }
+    requires { (p.0 < t.now.arena.counts.nodes) × (c.0 < t.now.arena.counts.nodes) }
     ensures { result ≡ is_child_of p.0 (node_at (table_tree t.now).nodes c.0).parent }
 {
     t.arena.nodes.parent_at(usize::from(c)) == Some(p)
@@ -58,29 +57,28 @@ fn is_child(t: &Table, p: NodeIndex, c: NodeIndex) -> bool
 
 // The node that a new Steiner node goes below: the source unless one is named.
 fn steiner_parent(t: &Table, parent: Option<NodeName>) -> Option<NodeIndex>
-    requires { Tabled t.now }
     ensures { lookup_of result ≡ parent_node (table_tree t.now) 0 (parent_name_of parent) }
 {
     match parent {
         None => Some(NodeIndex(0)),
-        Some(name) => tables::find_node(t, name),
+        Some(name) => t.find_node(name),
     }
 }
 
 // The node that a new terminal goes below: the closest unless one is named.
 fn terminal_parent(t: &Table, q: Point, parent: Option<NodeName>) -> Option<NodeIndex>
-    requires { Tabled t.now × Within reach q }
+    requires { Within reach q }
     ensures { lookup_of result ≡ parent_node (table_tree t.now) (closest (table_tree t.now).nodes q (length (table_tree t.now).nodes)) (parent_name_of parent) }
 {
     match parent {
         None => Some(nearest::closest_node(&t.arena.nodes.points, t.arena.counts.nodes, q)),
-        Some(name) => tables::find_node(t, name),
+        Some(name) => t.find_node(name),
     }
 }
 
 // Where the search has the query's point join.
 fn find_place(t: &Table, query: Query, ks: &[i32]) -> Join
-    requires { Tabled t.now × Within reach query.point }
+    requires { Within reach query.point }
     ensures { join_of result ≡ find (blocked (keepouts_of ks.now)) (table_tree t.now).nodes query.limit query.allowed query.point }
 {
     let at = &t.arena.nodes.points[..];
@@ -172,7 +170,7 @@ fn is_full(k: Counts, j: Join) -> bool
 
 // A terminal where the search has found.
 fn join_found(t: &Table, q: Point, j: Join) -> Result<Insertion, Refusal>
-    requires tabled { Tabled t.now × Within reach q }
+    requires within { Within reach q }
     requires fits { Fits (table_tree t.now).nodes (join_of j) }
     ensures { Edits (join_found (table_tree t.now) q (join_of j)) result }
 {
@@ -193,7 +191,6 @@ pub fn insert_steiner_node(
     q: Point,
     parent: Option<NodeName>,
 ) -> Result<Insertion, Refusal>
-    requires { Tabled t.now }
     ensures { Edits (insert_steiner_node (table_tree t.now) q (parent_name_of parent)) result }
 {
     if job::outside(q) {
@@ -211,7 +208,6 @@ pub fn insert_terminal_node(
     q: Point,
     parent: Option<NodeName>,
 ) -> Result<Insertion, Refusal>
-    requires { Tabled t.now }
     ensures { Edits (insert_terminal_node (table_tree t.now) q (parent_name_of parent)) result }
 {
     if job::outside(q) {
@@ -231,16 +227,15 @@ pub fn insert_node_on_branch(
     start: NodeName,
     end: NodeName,
 ) -> Result<Insertion, Refusal>
-    requires { Tabled t.now }
     ensures { Edits (insert_node_on_branch (table_tree t.now) (kind_in kind) q (name_in start) (name_in end)) result }
 {
     if job::outside(q) {
         return Err(Refusal::Outside);
     }
-    let Some(p) = tables::find_node(t, start) else {
+    let Some(p) = t.find_node(start) else {
         return Err(Refusal::NoSuchNode);
     };
-    let Some(c) = tables::find_node(t, end) else {
+    let Some(c) = t.find_node(end) else {
         return Err(Refusal::NoSuchNode);
     };
     let name = new_name(t.arena.counts, kind)?;
@@ -249,8 +244,7 @@ pub fn insert_node_on_branch(
 
 // A terminal at the query's point, where the search finds. Refusals, in this order: 5, 2, 6, 10.
 pub fn insert_by_search(t: &Table, query: Query, ks: &[i32]) -> Result<Insertion, Refusal>
-    requires tabled { Tabled t.now }
-    requires limit_value { query.limit ≡ t.now.limit }
+    requires { query.limit ≡ t.now.limit }
     ensures { Edits (insert_terminal_with_constraints (table_tree t.now) query.point query.allowed (keepouts_of ks.now)) result }
 {
     if job::outside(query.point) {

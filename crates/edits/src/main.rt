@@ -2,7 +2,6 @@
 #![tactic(auto)]
 
 ghost use Rattle.std.specs.Prelude.{◌<◌, length, IfOk};
-ghost use Rattle.global_router.specs.Stored.{Stored};
 
 use global_router::GlobalRoutingTree;
 use std::io::{Error, ErrorKind, Result};
@@ -17,21 +16,17 @@ fn write_step(
     script: &[u8],
     at: usize,
 ) -> Result<usize>
-    requires stored { Stored tree.old }
-    requires at_in_bounds { at < length script.now }
-    ensures stored { Stored tree.new }
-    ensures on { IfOk result (λ next. at < next) }
+    requires { at < length script.now }
+    ensures { IfOk result (λ next. at < next) }
 {
-    let mut out = script::buffer::<{ script::MOST_ANSWER }>();
+    let mut out = planning::buffer::<{ script::MOST_ANSWER }>();
     let step = script::step(tree, script, at, &mut out);
     rt.write_all(&out[..step.written])?;
     Ok(step.next)
 }
 
 // Runs the records, after the start. (A `while`: a record tells where the next one stands.)
-fn write_steps(rt: &HostRuntime, mut tree: GlobalRoutingTree, script: &[u8]) -> Result<()>
-    requires { Stored tree }
-{
+fn write_steps(rt: &HostRuntime, mut tree: GlobalRoutingTree, script: &[u8]) -> Result<()> {
     let mut at = script::first_record(script);
     while at < script.len() {
         at = write_step(rt, &mut tree, script, at)?;
@@ -40,7 +35,7 @@ fn write_steps(rt: &HostRuntime, mut tree: GlobalRoutingTree, script: &[u8]) -> 
 }
 
 fn run(rt: &HostRuntime, script: &[u8]) -> Result<()> {
-    let mut out = script::buffer::<{ script::MOST_ANSWER }>();
+    let mut out = planning::buffer::<{ script::MOST_ANSWER }>();
     let start = script::start(script);
     let n = script::put_start(&mut out, &start);
     rt.write_all(&out[..n])?;

@@ -23,6 +23,7 @@ fn returned(answer: Result<usize, Refusal>) -> i64
     ensures { result ≡ returned_of «answer» }
 {
     match answer {
+        // (`as`: it fits by the contract, and there is no From of usize for i64.)
         Ok(n) => n as i64,
         Err(why) => refused(why),
     }

@@ -1,5 +1,5 @@
 // The C calls of the router: those of exports, under their names and clauses, as a static library. bindings/ has the C header and a Rust crate over these.
-// A slice is a pointer and a length to C.
+// A slice is a pointer and a length to C. The calls of C go out under fixed names, one line each, so that their bodies are alike.
 #![tactic(auto)]
 
 ghost use Rattle.std.specs.Prelude.{◌≡◌};

@@ -1,6 +1,5 @@
 -- Chains of tests: the code tests a, and then b or not; the definition says a && b, or a || b. `s` is a's result in the code.
-use mathlib.Core.Path.{◌≡◌, refl, sym, ◌∙◌}
-use mathlib.Core.Bool.{Bool, true, false, ◌&&◌, ◌||◌}
+use Rattle.std.proofs.Common.{◌≡◌, refl, sym, ◌∙◌, Bool, true, false, ◌&&◌, ◌||◌}
 use Rattle.geometry.specs.Signed.{no_way}
 
 pub and_then : {a b s r : Bool} → s ≡ a → s ≡ true → r ≡ b → r ≡ (a && b)

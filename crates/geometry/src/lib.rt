@@ -27,7 +27,7 @@ pub struct Rectangle {
 
 // ---- numbers
 
-// `min_dist_with` of two numbers.
+// `min_dist_with` of two numbers: the Rust's name, as `hull` and the like.
 #[tactic(auto, unfolding(crate::specs::Geometry::gap))]
 pub fn min_dist(a: i32, b: i32) -> u32
     ensures { result ≡ gap a b }
@@ -56,12 +56,12 @@ impl Interval {
         self.ub < self.lb
     }
 
-    // Whether a number lies within the bounds.
+    // Whether a number lies within the bounds. `&` takes no branch: of keepouts in no order it would often be guessed wrongly.
     #[tactic(auto, unfolding(crate::specs::Geometry::inside))]
     pub fn contains_value(self, v: i32) -> bool
         ensures { result ≡ inside self v }
     {
-        self.lb <= v && v <= self.ub
+        (self.lb <= v) & (v <= self.ub)
     }
 
     #[tactic(auto, unfolding(crate::specs::Geometry::covers))]

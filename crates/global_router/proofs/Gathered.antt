@@ -1,10 +1,5 @@
 -- An edit that is given the numbers of a list of rectangles, as far as there is room, is the edit that is given the list: more than an edit takes still are.
-use Prim.Native.Nat.{◌*◌}
-use mathlib.Core.Path.{◌≡◌, ap, ◌∙◌}
-use mathlib.Core.Bool.{cond}
-use mathlib.Core.List.{List}
-use lib.IntN.{ℤ}
-use lib.ListN.{take}
+use Rattle.std.proofs.Common.{◌*◌, ◌≡◌, ap, ◌∙◌, cond, List, ℤ, take}
 use Rattle.geometry.specs.declared.Point.{Point}
 use Rattle.geometry.specs.declared.Rectangle.{Rectangle}
 use Rattle.tree.specs.Tree.{Tree}

@@ -1,6 +1,5 @@
 -- What is read of a tree's columns is read of the tree.
-use Rattle.std.specs.Prelude.{Option}
-use mathlib.Core.Path.{◌≡◌, ap, ◌∙◌}
+use Rattle.std.proofs.Common.{◌≡◌, ap, ◌∙◌, Option}
 use Rattle.tree.specs.Tree.{Tree, Name}
 use Rattle.tree.specs.Measures.{lookup}
 use Rattle.tables.proofs.TableSizes.{of_all}

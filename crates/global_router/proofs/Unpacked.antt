@@ -1,27 +1,24 @@
--- A tree in memory, unpacked into buffers: it is the same tree, and what memory shows of it holds in the buffers.
-use Prim.Native.Nat.{ℕ, ◌<◌}
-use mathlib.Core.Path.{◌≡◌, sym, ap, subst, ◌∙◌}
-use mathlib.Core.List.{reverse, reverse-reverse}
-use native.Mathlib.Omega.{arith}
-use lib.ListN.{length, get_or}
-use lib.IntN.{ℤ}
+-- A tree in memory, unpacked into a table: it is the same tree, and what memory shows of it holds of the table.
+use Rattle.std.proofs.Common.{ℕ, ◌<◌, ◌≡◌, sym, ap, subst, ◌∙◌, reverse, arith, length, get_or, ℤ}
+use mathlib.Core.List.{reverse-reverse}
 use Rattle.geometry.specs.Signed.{In32, back, home}
 use Rattle.tree.specs.Limits.{most_nodes, no_node}
 use Rattle.tree.specs.Tree.{Node, at, node_at, blank}
 use Rattle.tree.specs.WellFormed.{WellFormed}
 use Rattle.tree.proofs.Linking.{parent_in_lem}
 use Rattle.search.specs.Columns.{chain, Chain, Chained}
+use Rattle.joining.specs.declared.Arena.{Arena}
 use Rattle.joining.specs.declared.NodeRows.{NodeRows}
+use Rattle.joining.specs.Buffers as B
 use Rattle.joining.specs.Buffers.{rows_held}
 use Rattle.joining.specs.Links.{ChildrenAre}
-use Rattle.joining.specs.Store.{Columns, row_at, node_from, node_of, nodes_of, SizedRows, Keeps}
+use Rattle.joining.specs.Store.{Columns, columns_of, row_at, node_from, node_of, nodes_of, SizedRows, Keeps}
 use Rattle.joining.proofs.Reading.{length_upto, get_or-upto}
-use Rattle.tables.specs.declared.Table.{Table}
 use Rattle.tables.specs.Nodes.{Packs, Unpackable}
-use Rattle.tables.specs.Table.{table_columns, table_tree, Tabled}
+use Rattle.tables.specs.Held.{tree_in, TreeIn}
 use Rattle.global_router.specs.declared.GlobalRoutingTree.{GlobalRoutingTree}
 use Rattle.global_router.specs.Stored as M
-use Rattle.global_router.specs.Stored.{tree_of, counts_of, Stored}
+use Rattle.global_router.specs.Stored.{tree_of, counts_of, stored, Stored}
 use Rattle.global_router.proofs.Packed.{upto_same}
 
 -- ---- columns whose chains end keep the nodes that are read in them
@@ -40,7 +37,10 @@ module _ (c : Columns) (n : ℕ) (chains : (p : ℕ) → p < n → Chained c.pre
       own : (p : ℕ) → p < n → ChildrenAre c.last c.prev p (reverse (chain c.prev (get_or c.last p 0)))
       own p h = subst (Chain c.prev (get_or c.last p 0)) (sym (reverse-reverse (chain c.prev (get_or c.last p 0)))) (chains p h).is
 
-module _ (g : GlobalRoutingTree) (v : Stored g) where
+module _ (g : GlobalRoutingTree) where
+  abbrev v : Stored g
+  v = stored g
+
   -- ---- each node can be kept in a row
   size : length (tree_of g).nodes ≡ g.count
   size = length_upto (M.node_stored g) g.count
@@ -61,19 +61,16 @@ module _ (g : GlobalRoutingTree) (v : Stored g) where
 
   -- ---- as the code makes it, with the allowance as the code reads it back
   module _ (r : NodeRows) (packs : Packs (rows_held r) g.count g.nodes) (sized : SizedRows most_nodes (rows_held r)) where
-    abbrev table : ℤ → Table
-    table allowed =
-        record {
-          arena = record { nodes = r; links = g.links; counts = counts_of g };
-          limit = g.worst_wirelength;
-          allowed = allowed;
-          farthest = g.farthest;
-        }
+    abbrev arena : Arena
+    arena = record { nodes = r; links = g.links; counts = counts_of g }
 
-    nodes-same : (table_tree (table g.allowed)).nodes ≡ (tree_of g).nodes
-    nodes-same = upto_same (node_of (table_columns (table g.allowed))) (M.node_stored g) g.count (λ i h. sym (packs.is i h _))
+    abbrev kept : Columns
+    kept = columns_of (B.stored arena)
 
-    unpacked_is : table_tree (table g.allowed) ≡ tree_of g
+    nodes-same : nodes_of kept g.count ≡ (tree_of g).nodes
+    nodes-same = upto_same (node_of kept) (M.node_stored g) g.count (λ i h. sym (packs.is i h _))
+
+    unpacked_is : tree_in arena g.worst_wirelength g.allowed g.farthest ≡ tree_of g
     unpacked_is =
         λ i. record {
           nodes = nodes-same i;
@@ -84,11 +81,11 @@ module _ (g : GlobalRoutingTree) (v : Stored g) where
           next_terminal = g.next_terminal_id.0;
         }
 
-    unpacked-tabled : Tabled (table g.allowed)
-    unpacked-tabled =
+    unpacked-kept : TreeIn arena g.worst_wirelength g.allowed g.farthest
+    unpacked-kept =
         record {
           formed = subst WellFormed (sym unpacked_is) v.formed;
-          keeps = keeps_read (table_columns (table g.allowed)) g.count v.chains;
+          keeps = keeps_read kept g.count v.chains;
           sized = record { rows = sized; last = v.last; prev = v.prev; few = omega arith };
           back = v.back;
           few = v.few;
@@ -97,5 +94,5 @@ module _ (g : GlobalRoutingTree) (v : Stored g) where
           farthest-small = v.farthest-small;
         }
 
-    pub unpacked : In32 g.allowed → (table_tree (table (back g.allowed)) ≡ tree_of g) × Tabled (table (back g.allowed))
-    unpacked f = subst (λ (z : ℤ). (table_tree (table z) ≡ tree_of g) × Tabled (table z)) (sym (home f)) (unpacked_is, unpacked-tabled)
+    pub unpacked : In32 g.allowed → (tree_in arena g.worst_wirelength (back g.allowed) g.farthest ≡ tree_of g) × TreeIn arena g.worst_wirelength (back g.allowed) g.farthest
+    unpacked f = subst (λ (z : ℤ). (tree_in arena g.worst_wirelength z g.farthest ≡ tree_of g) × TreeIn arena g.worst_wirelength z g.farthest) (sym (home f)) (unpacked_is, unpacked-kept)

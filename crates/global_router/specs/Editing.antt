@@ -7,7 +7,7 @@ use Rattle.tree.specs.Memory.{name_in}
 use Rattle.tree.specs.declared.NodeName.{NodeName}
 use Rattle.editing.specs.Edits as D
 use Rattle.global_router.specs.declared.GlobalRoutingTree.{GlobalRoutingTree}
-use Rattle.global_router.specs.Stored.{tree_of, Stored}
+use Rattle.global_router.specs.Stored.{tree_of}
 
 -- the paper's number, or the new node's name and the tree
 abbrev pub edited_of : Result NodeName Refusal → Tree → D.Edit
@@ -23,4 +23,3 @@ AsBefore (Ok n) before after = Unit {0}
 pub record EditedTo (x : D.Edit) (g : GlobalRoutingTree) (r : Result NodeName Refusal) (g' : GlobalRoutingTree) : Type 0 where
   pub is : edited_of r (tree_of g') ≡ x
   pub kept : AsBefore r g g'
-  pub stored : Stored g'

@@ -1,3 +1,4 @@
+pub mod Held
 pub mod Stored
 pub mod Calls
 pub mod Reading

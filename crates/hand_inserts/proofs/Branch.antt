@@ -1,11 +1,6 @@
 -- A node on the branch from p to d: what the code needs of a tree that stands in the columns, and that the tree with the node stands there after it.
 -- The idea: links and rows are those of a node between p and d (Between.antt of the crate joining), with no other node beside it.
-use Prim.Native.Nat.{ℕ, ◌<◌}
-use mathlib.Core.Path.{◌≡◌, refl, ap, sym, subst, ◌∙◌}
-use mathlib.Core.Logic.{◌≢◌}
-use mathlib.Core.List.{List, [], ◌∷◌, ◌++◌}
-use native.Mathlib.Omega.{arith}
-use lib.ListN.{length}
+use Rattle.std.proofs.Common.{ℕ, ◌<◌, ◌≡◌, refl, ap, sym, subst, ◌∙◌, ◌≢◌, List, [], ◌∷◌, ◌++◌, arith, length}
 use Rattle.geometry.specs.declared.Point.{Point}
 use Rattle.tree.specs.Tree.{Node, Tree, at, node_at, without, replace_last}
 use Rattle.tree.specs.Route.{new_node, splice}

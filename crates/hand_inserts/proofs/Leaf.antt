@@ -1,9 +1,5 @@
 -- A leaf: what the code needs of a tree that stands in the columns, and that the tree with the leaf stands there after it.
-use Prim.Native.Nat.{ℕ, ◌<◌}
-use mathlib.Core.Path.{◌≡◌, sym, subst}
-use mathlib.Core.List.{[]}
-use native.Mathlib.Omega.{arith}
-use lib.ListN.{length}
+use Rattle.std.proofs.Common.{ℕ, ◌<◌, ◌≡◌, sym, subst, [], arith, length}
 use Rattle.geometry.specs.declared.Point.{Point}
 use Rattle.tree.specs.Memory.{name_in}
 use Rattle.tree.specs.declared.NodeName.{NodeName}

@@ -1,8 +1,5 @@
 -- A new node's row and the counts after it, by its name.
-use Prim.Native.Nat.{ℕ, ◌<◌}
-use mathlib.Core.Path.{◌≡◌, ap}
-use mathlib.Core.List.{List}
-use native.Mathlib.Omega.{arith}
+use Rattle.std.proofs.Common.{ℕ, ◌<◌, ◌≡◌, ap, List, arith}
 use Rattle.geometry.specs.declared.Point.{Point}
 use Rattle.tree.specs.Limits.{no_node}
 use Rattle.tree.specs.Tree.{zero_figure, Tree, Name}

@@ -14,7 +14,8 @@ use geometry::Point;
 use joining::{Arena, Counts, NodeRows, Row};
 use tree::{NodeIndex, NodeName, SteinerNumber};
 
-// The row of a new node at q below p.
+// The row of a new node at q below p. (Name, point and parent are three words, here and in the steps over this: a struct of them would be made at each
+// call, and taken apart in the next.)
 fn new_row(name: NodeName, q: Point, p: NodeIndex) -> Row
     ensures { result ≡ new_row name q p.0 }
 {

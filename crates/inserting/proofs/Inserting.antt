@@ -1,10 +1,5 @@
 -- What the two ways to insert a terminal need, and what they show: the closest node is the tree's, and the search's place is in the tree.
-use Prim.Native.Nat.{ℕ, ◌≤◌, ◌<◌}
-use mathlib.Core.Path.{◌≡◌, refl, ap, sym, subst, ◌∙◌}
-use mathlib.Core.List.{List}
-use native.Mathlib.Omega.{arith}
-use lib.ListN.{length}
-use lib.IntN.{ℤ}
+use Rattle.std.proofs.Common.{ℕ, ◌≤◌, ◌<◌, ◌≡◌, refl, ap, sym, subst, ◌∙◌, List, arith, length, ℤ}
 use Rattle.geometry.specs.declared.Point.{Point}
 use Rattle.tree.specs.Limits.{most_nodes}
 use Rattle.tree.specs.Tree.{Node, Tree, terminal}

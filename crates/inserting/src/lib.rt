@@ -19,7 +19,7 @@ pub enum Way {
     Search,
 }
 
-// ---- one terminal
+// ---- one terminal: `Query` has the point and the limits; keepouts are lent beside it, since they are the job's for the whole route
 
 // A terminal at q joins the closest node; its path length stays 0.
 fn insert_simple(arena: &mut Arena, q: Point)
@@ -38,7 +38,7 @@ fn insert_simple(arena: &mut Arena, q: Point)
     arena.counts = k.one_more();
 }
 
-// Where the search over the first n nodes has the query's point join.
+// Where the search over the first n nodes, which are the arena's own, has the query's point join.
 fn find(arena: &Arena, n: usize, a: Query, ks: &[i32]) -> Found
     requires { Searchable n a (stored arena.now) }
     ensures { FoundIn n a (stored arena.now) ks.now result }
@@ -92,7 +92,7 @@ fn first_counts() -> Counts
     }
 }
 
-// The source alone, at s.
+// The source alone, at s: NO_NODE is what the columns hold of its parent and its children.
 fn store_source(arena: &mut Arena, s: Point)
     ensures begun { Begun (stored arena.old) s (stored arena.new) }
     ensures counts { arena.new.counts ≡ first_counts }

@@ -1,14 +1,9 @@
 -- What an accepted job has (`Accepted`), as a list and in memory.
 -- The idea: where no test refuses, each test's negation holds, of every terminal and keepout.
-use mathlib.Core.Path.{◌≡◌, refl, sym, ap, subst, ◌∙◌}
-use mathlib.Core.Bool.{true, false, ◌&&◌}
-use mathlib.Core.List.{List, [], ◌∷◌, map, Memᴰ}
-use Prim.Native.Nat.{ℕ, zero, suc, ◌≤◌, ◌<◌}
-use native.Mathlib.Omega.{arith}
-use lib.ListN.{length, get_or, length-map, get_or-append}
-use lib.IntN.{ℤ, pos, negsuc, nat_abs, neg_ℤ}
-use lib.Dec.{leb}
+use Rattle.std.proofs.Common.{◌≡◌, refl, sym, ap, subst, ◌∙◌, true, false, ◌&&◌, List, [], ◌∷◌, map, ℕ, zero, suc, ◌≤◌, ◌<◌, arith, length, get_or, ℤ, pos, negsuc, nat_abs, neg_ℤ, leb}
+use Rattle.std.proofs.Math.ListN.{length-map, get_or-append}
 use lib.Signed.{le_z}
+use mathlib.Core.List.{Memᴰ}
 use borrow.Author.Tests.{leb-true, not-false}
 use Rattle.geometry.specs.declared.Point.{Point}
 use Rattle.geometry.specs.declared.Rectangle.{Rectangle}

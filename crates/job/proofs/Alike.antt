@@ -1,10 +1,7 @@
 -- Jobs alike but for order are read alike. The tests that are left after 1 to 3 give both the same: test 4 is of equal bytes,
 -- test 5 of terminals that stand there as often, which a fold with commuting steps cannot tell apart, and test 6 of the same keepouts.
-use mathlib.Core.Path.{◌≡◌, refl, sym, ap, subst, ◌∙◌}
-use mathlib.Core.Bool.{Bool, true, false, ◌||◌, ◌&&◌, cond}
-use mathlib.Core.List.{List, [], ◌∷◌, foldr}
-use Prim.Native.Nat.{ℕ}
-use lib.Dec.{ltb}
+use Rattle.std.proofs.Common.{◌≡◌, refl, sym, ap, subst, ◌∙◌, Bool, true, false, ◌||◌, ◌&&◌, cond, List, [], ◌∷◌, ℕ, ltb}
+use mathlib.Core.List.{foldr}
 use Rattle.geometry.specs.declared.Point.{Point}
 use Rattle.tree.specs.Search.{any_of}
 use Rattle.tree.specs.Route.{SameTerminals}

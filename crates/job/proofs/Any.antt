@@ -1,7 +1,6 @@
 -- A test of any element of a list, by the list's members: it fails where it fails of each, so two lists with the same members have one answer.
-use mathlib.Core.Path.{◌≡◌, refl, sym, ap, ◌∙◌}
-use mathlib.Core.Bool.{Bool, true, false, ◌||◌}
-use mathlib.Core.List.{List, [], ◌∷◌, Memᴰ}
+use Rattle.std.proofs.Common.{◌≡◌, refl, sym, ap, ◌∙◌, Bool, true, false, ◌||◌, List, [], ◌∷◌}
+use mathlib.Core.List.{Memᴰ}
 use Rattle.tree.specs.Search.{any_of}
 use Rattle.tree.proofs.Deciding.{never}
 

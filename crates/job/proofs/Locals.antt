@@ -1,7 +1,5 @@
 -- A signed number that a call gave is a local's bits, which are read back.
-use mathlib.Core.Path.{◌≡◌, ◌∙◌}
-use Prim.Native.Nat.{◌<◌}
-use lib.IntN.{ℤ}
+use Rattle.std.proofs.Common.{◌≡◌, ◌∙◌, ◌<◌, ℤ}
 use lib.Signed.{mag}
 use Rattle.geometry.specs.Signed.{back, half, home}
 

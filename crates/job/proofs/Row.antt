@@ -1,14 +1,7 @@
 -- Laws of things side by side: their number, one more at the end; a column that is filled from its start;
 -- and whether a test holds of any, as `any` over their indices answers.
-use mathlib.Core.Path.{◌≡◌, refl, sym, ap, ◌∙◌}
-use mathlib.Core.Bool.{Bool, true, false, ◌||◌}
-use mathlib.Core.List.{List, [], ◌∷◌, ◌++◌, append_assoc, map}
-use Prim.Native.Nat.{ℕ, zero, suc, ◌+◌, ◌-◌, ◌*◌, ◌≤◌, ◌<◌}
-use native.Mathlib.Nat.{mul-suc, mul-zero}
-use native.Mathlib.Numerals.{add-one}
-use native.Mathlib.Omega.{arith}
-use lib.ListN.{length, drop, set, get_or}
-use lib.Seq.{set_at, drop-cons}
+use Rattle.std.proofs.Common.{◌≡◌, refl, sym, ap, ◌∙◌, Bool, true, false, ◌||◌, List, [], ◌∷◌, ◌++◌, append_assoc, map, ℕ, zero, suc, ◌+◌, ◌-◌, ◌*◌, ◌≤◌, ◌<◌, mul-suc, mul-zero, add-one, arith, length, drop, set, get_or, drop-cons}
+use Rattle.std.proofs.Math.Seq.{set_at}
 use Rattle.std.specs.Bool.{MatchBool}
 use Rattle.std.specs.List.{list_any, range_with_len, HoldsAt, AllWithin}
 use Rattle.std.proofs.lemmas.List.Folds.{list_any_at, list_any_none}

@@ -1,11 +1,7 @@
 -- Samples of the definitions at their edges, by computing both sides.
-use mathlib.Core.Path.{◌≡◌, refl}
-use mathlib.Core.List.{List, [], ◌∷◌, ◌++◌, map, Memᴰ}
-use Prim.Native.Nat.{ℕ}
-use native.Mathlib.Omega.{arith}
-use lib.IntN.{ℤ, pos, negsuc}
+use Rattle.std.proofs.Common.{◌≡◌, refl, List, [], ◌∷◌, ◌++◌, map, ℕ, arith, ℤ, pos, negsuc, take}
 use lib.Ieee.{binary64, of_bits}
-use lib.ListN.{take}
+use mathlib.Core.List.{Memᴰ}
 use Rattle.geometry.specs.Geometry.{origin, invalid, inside, contains}
 use Rattle.tree.specs.Search.{any_of}
 use Rattle.tree.specs.Route.{times}

@@ -1,11 +1,6 @@
 -- The tests of `read_job` in their order. A test that is passed leaves the rest to decide, which is how the code goes;
 -- and where a job is accepted, all were passed.
-use mathlib.Core.Path.{◌≡◌, refl, sym, ap, ◌∙◌}
-use mathlib.Core.Bool.{Bool, true, false, cond}
-use mathlib.Core.List.{List}
-use Prim.Native.Nat.{ℕ, ◌≤◌}
-use native.Mathlib.Omega.{arith}
-use lib.Dec.{ltb}
+use Rattle.std.proofs.Common.{◌≡◌, refl, sym, ap, ◌∙◌, Bool, true, false, cond, List, ℕ, ◌≤◌, arith, ltb}
 use borrow.Author.Tests.{ltb-false}
 use Rattle.tree.specs.Limits.{most_terminals, most_keepouts}
 use Rattle.job.specs.Job.{Job, Answer, refused, accepted, terminal_count, keepout_count, short, too_many, wrong_length, wrong_offset, wrong_mode, far_out, bad_keepout, job_of, read_job}

@@ -43,6 +43,7 @@ pub struct RoutingJob {
 
 // ---- what stands at a place
 
+// The two counts: the layout names both, and so does each test that asks for one.
 fn terminal_count(s: &[u8]) -> u16
     ensures { result ≡ terminal_count s.now }
 {
@@ -63,7 +64,8 @@ fn keepouts_at(s: &[u8]) -> usize
     HEADER_SIZE + TERMINAL_SIZE * usize::from(terminal_count(s))
 }
 
-fn point_from(s: &[u8], at: usize) -> Point
+// A point and a rectangle stand so wherever bytes have them: in a job, and in an edit script.
+pub fn point_from(s: &[u8], at: usize) -> Point
     requires { at + 4 < 2 ^ 64 }
     ensures { result ≡ point_from s.now at }
 {
@@ -83,7 +85,7 @@ fn interval_from(s: &[u8], at: usize) -> Interval
     }
 }
 
-fn rectangle_from(s: &[u8], at: usize) -> Rectangle
+pub fn rectangle_from(s: &[u8], at: usize) -> Rectangle
     requires { at + 12 < 2 ^ 64 }
     ensures { result ≡ rectangle_from s.now at }
 {
@@ -138,6 +140,7 @@ fn wrong_length(s: &[u8]) -> bool
 fn wrong_offset(s: &[u8]) -> bool
     ensures { result ≡ wrong_offset s.now }
 {
+    // `as`: there is no From of u32 for usize.
     let terminals = wire::u32_at(s, 4) as usize;
     let keepouts = wire::u32_at(s, 8) as usize;
     terminals != HEADER_SIZE || keepouts != keepouts_at(s)

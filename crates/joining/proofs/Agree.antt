@@ -1,12 +1,6 @@
 -- A tree whose links agree is one that the search can walk: lists of children as counts, and as members.
-use Prim.Native.Nat.{ℕ, zero, suc, ◌≤◌, ◌<◌}
-use mathlib.Core.Path.{◌≡◌, refl, ap, sym, ◌∙◌}
-use mathlib.Core.Logic.{◌≢◌, ◌⊎◌, inl, inr, ⊎_elim}
-use mathlib.Core.Bool.{Bool, true, false}
-use mathlib.Core.List.{List, [], ◌∷◌, reverse, reverse-cons}
-use native.Mathlib.Omega.{arith}
-use lib.ListN.{length}
-use lib.Dec.{eqb}
+use Rattle.std.proofs.Common.{ℕ, zero, suc, ◌≤◌, ◌<◌, ◌≡◌, refl, ap, sym, ◌∙◌, ◌≢◌, ◌⊎◌, inl, inr, ⊎_elim, Bool, true, false, List, [], ◌∷◌, reverse, arith, length, eqb}
+use mathlib.Core.List.{reverse-cons}
 use borrow.Author.Tests.{eqb-true}
 use Rattle.tree.specs.Limits.{longest_path, reach}
 use Rattle.tree.specs.Tree.{one, Node, Parent, none, at, node_at}

@@ -1,10 +1,5 @@
 -- The columns after a row is attached keep the nodes with one more: its own row and children are new, its parent's children are more, and the others are as before.
-use Prim.Native.Nat.{ℕ, ◌<◌}
-use mathlib.Core.Path.{◌≡◌, ap, sym, subst, ◌∙◌}
-use mathlib.Core.Logic.{◌≢◌}
-use mathlib.Core.List.{List, [], ◌∷◌, ◌++◌}
-use native.Mathlib.Omega.{arith}
-use lib.ListN.{length}
+use Rattle.std.proofs.Common.{ℕ, ◌<◌, ◌≡◌, ap, sym, subst, ◌∙◌, ◌≢◌, List, [], ◌∷◌, ◌++◌, arith, length}
 use Rattle.tree.specs.Tree.{Node, node_at, adopt}
 use Rattle.tree.specs.Route.{attach}
 use Rattle.tree.specs.Shape.{Linked}

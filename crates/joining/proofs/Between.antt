@@ -1,10 +1,5 @@
 -- A node s goes between p and its child c: the links and rows after it, whatever other node comes with s. The idea: three changes of links in turn, each of which keeps the lists of children that it does not name.
-use Prim.Native.Nat.{ℕ, ◌≤◌, ◌<◌}
-use mathlib.Core.Path.{◌≡◌, ap, sym, ◌∙◌}
-use mathlib.Core.Logic.{◌≢◌}
-use mathlib.Core.List.{List, [], ◌∷◌, ◌++◌, reverse}
-use native.Mathlib.Omega.{arith}
-use lib.ListN.{length}
+use Rattle.std.proofs.Common.{ℕ, ◌≤◌, ◌<◌, ◌≡◌, ap, sym, ◌∙◌, ◌≢◌, List, [], ◌∷◌, ◌++◌, reverse, arith, length}
 use Rattle.tree.specs.Tree.{zero_figure, Node, at, node_at, without, replace_last, with_parent}
 use Rattle.tree.specs.Shape.{Linked, count}
 use Rattle.tree.proofs.Counting.{one-ne, count_snoc, count-without, count_gone}

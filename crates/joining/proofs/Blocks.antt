@@ -1,13 +1,6 @@
 -- A store in one column of a buffer: it is a `set` of that column, and the other columns stay as they are. No length is asked of the buffer: a column ends where the buffer does.
-use Prim.Native.Nat.{ℕ, ◌+◌, ◌*◌, ◌-◌, ◌≤◌, ◌<◌}
-use mathlib.Core.Path.{◌≡◌, refl, ap, sym, ◌∙◌}
-use mathlib.Core.Bool.{Bool, true, false}
-use mathlib.Core.List.{List, ◌++◌, append_assoc}
-use native.Mathlib.Omega.{arith}
-use lib.ListN.{length, get_or, take, drop, set, length-append, length-take, length-drop}
-use lib.Dec.{ltb}
-use lib.IntN.{ℤ}
-use lib.Seq.{length-take-le, take-set-le, take-set-lt, drop-set-lt, drop-set-add, get_or-take, get_or-drop, set_out, take-add, take-take, take-append-le, take_at, drop_at, drop-drop}
+use Rattle.std.proofs.Common.{ℕ, ◌+◌, ◌*◌, ◌-◌, ◌≤◌, ◌<◌, ◌≡◌, refl, ap, sym, ◌∙◌, Bool, true, false, List, ◌++◌, append_assoc, arith, length, get_or, take, drop, set, length-append, length-take, length-drop, ltb, ℤ, length-take-le, drop-set-lt, get_or-take, get_or-drop, take-add, take-take, take_at, drop_at, drop-drop}
+use Rattle.std.proofs.Math.Seq.{take-set-le, take-set-lt, drop-set-add, set_out, take-append-le}
 use borrow.Author.Tests.{ltb-true, ltb-false}
 use Rattle.tree.specs.Limits.{most_nodes}
 use Rattle.joining.specs.declared.Arena.{Arena}
@@ -68,7 +61,7 @@ with_column k l ys = take (k * most_nodes) l ++ (ys ++ drop most_nodes (drop (k 
 pub column-size : {A : Type 0} (k : ℕ) (l : List A) → k * most_nodes + most_nodes ≤ length l → length (column k l) ≡ most_nodes
 column-size k l h = length-take-le most_nodes (drop (k * most_nodes) l) (omega (arith, length-drop (k * most_nodes) l))
 
--- so of a tree in buffers by value, whose lengths are in their types
+-- so of a tree in an arena, whose arrays' lengths are in their types
 pub sized_rows : (points : List ℤ) (path marks : List ℕ) → length points ≡ 2 * most_nodes → length path ≡ most_nodes → length marks ≡ 3 * most_nodes → SizedRows most_nodes (rows_in points path marks)
 sized_rows points path marks p q m =
     record {

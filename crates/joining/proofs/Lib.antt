@@ -12,3 +12,4 @@ pub mod Names
 pub mod Reading
 pub mod Growing
 pub mod Placing
+pub mod Merely

@@ -1,13 +1,6 @@
 -- Appending a child and taking one out, as what they do to the lists of children that the links hold both ways.
-use Prim.Native.Nat.{ℕ, ◌≤◌, ◌<◌}
-use mathlib.Core.Path.{◌≡◌, refl, sym, ◌∙◌, subst}
-use mathlib.Core.Bool.{Bool, true, false, cond}
-use mathlib.Core.Logic.{◌≢◌}
-use mathlib.Core.List.{List, [], ◌∷◌, ◌++◌, reverse, reverse_aux, reverse-append}
-use native.Mathlib.Omega.{arith}
-use lib.ListN.{length, get_or, set}
-use lib.Dec.{eqb}
-use lib.Seq.{get_or-set_same, get_or-set_other}
+use Rattle.std.proofs.Common.{ℕ, ◌≤◌, ◌<◌, ◌≡◌, refl, sym, ◌∙◌, subst, Bool, true, false, cond, ◌≢◌, List, [], ◌∷◌, ◌++◌, reverse, arith, length, get_or, set, eqb, get_or-set_same, get_or-set_other}
+use mathlib.Core.List.{reverse_aux, reverse-append}
 use borrow.Author.Tests.{eqb-true, eqb-false}
 use Rattle.tree.specs.Limits.{no_node}
 use Rattle.tree.specs.Tree.{without}

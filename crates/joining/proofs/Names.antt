@@ -1,11 +1,6 @@
 -- A name by its kind and number, and an index by the number for it in a column.
-use Prim.Native.Nat.{ℕ, ◌<◌}
-use mathlib.Core.Path.{◌≡◌, refl, sym}
-use mathlib.Core.Bool.{Bool, true, false, cond}
-use native.Mathlib.Omega.{arith}
-use lib.Dec.{eqb}
-use borrow.Author.Tests.{ne_eqb, eqb-true}
-use Rattle.std.specs.Prelude.{None, Some}
+use Rattle.std.proofs.Common.{ℕ, ◌<◌, ◌≡◌, refl, Bool, true, false, cond, arith, eqb, None, Some}
+use borrow.Author.Tests.{ne_eqb}
 use Rattle.tree.specs.Limits.{no_node}
 use Rattle.tree.specs.Tree.{none, at}
 use Rattle.tree.specs.Measures.{kind_of, number_of}
@@ -14,6 +9,7 @@ use Rattle.tree.specs.declared.NodeIndex.{NodeIndex}
 use Rattle.tree.specs.declared.NodeName.{NodeName}
 use Rattle.tree.specs.declared.NodeName.TheVariants.{Source, Steiner, Terminal}
 use Rattle.search.specs.Walk.{node_index}
+use Rattle.search.proofs.Chains.{link_from}
 use Rattle.joining.specs.Store.{parent_from, index_from, link_in}
 
 -- a name is that of its kind and number
@@ -33,11 +29,7 @@ parent_in-from p = by (eqb p no_node)
 
 -- the number of what a column's number names
 pub link_in-from : (p : ℕ) → link_in (index_from p) ≡ p
-link_in-from p = by (eqb p no_node) refl
-  where
-    by : (t : Bool) → eqb p no_node ≡ t → link_in (cond t None (Some (node_index p))) ≡ p
-    by true e = sym (eqb-true p no_node e)
-    by false e = refl
+link_in-from = link_from
 
 -- and of an index that is no no_node
 pub index_from-node : (i : NodeIndex) → i.0 < no_node → index_from i.0 ≡ Some i

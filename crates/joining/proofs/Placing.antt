@@ -1,9 +1,5 @@
 -- What the code that joins a terminal at a place needs, and what it shows: from a tree that stands in the columns, the tree with the terminal joined.
-use Prim.Native.Nat.{ℕ, ◌+◌, ◌≤◌, ◌<◌}
-use mathlib.Core.Path.{◌≡◌, sym, subst}
-use mathlib.Core.List.{List}
-use native.Mathlib.Omega.{arith}
-use lib.ListN.{length, get_or}
+use Rattle.std.proofs.Common.{ℕ, ◌+◌, ◌≤◌, ◌<◌, ◌≡◌, sym, subst, List, arith, length, get_or}
 use Rattle.geometry.specs.declared.Point.{Point}
 use Rattle.tree.specs.Limits.{most_nodes, no_node}
 use Rattle.tree.specs.Tree.{Tree, at, node_at}

@@ -1,10 +1,7 @@
 -- What columns that store a well-formed tree give: its nodes can be read, its children are the chains, the search can walk it, and it can be had back from them.
-use Prim.Native.Nat.{ℕ, zero, suc, ◌≤◌, ◌<◌}
-use mathlib.Core.Path.{◌≡◌, refl, ap, sym, subst, ◌∙◌}
-use mathlib.Core.List.{List, [], ◌∷◌, ◌++◌, reverse, reverse-reverse}
-use native.Mathlib.Omega.{arith}
-use lib.ListN.{length, get_or, length-append, get_or-append}
-use lib.Seq.{ext_get_or, get_or-append-add}
+use Rattle.std.proofs.Common.{ℕ, zero, suc, ◌≤◌, ◌<◌, ◌≡◌, refl, ap, sym, subst, ◌∙◌, List, [], ◌∷◌, ◌++◌, reverse, arith, length, get_or, length-append, ext_get_or, get_or-append-add}
+use Rattle.std.proofs.Math.ListN.{get_or-append}
+use mathlib.Core.List.{reverse-reverse}
 use Rattle.geometry.specs.Laws.{Within}
 use Rattle.tree.specs.Limits.{longest_path, most_nodes, no_node, reach}
 use Rattle.tree.specs.Tree.{Node, Tree, node_at, blank}

@@ -1,8 +1,5 @@
 -- What is read of a node is near and short, so a point on a branch is near, and the sums of path lengths fit.
-use Prim.Native.Nat.{ℕ, ◌+◌, ◌≤◌}
-use mathlib.Core.Path.{◌≡◌, sym, subst}
-use native.Mathlib.Omega.{arith}
-use Rattle.std.proofs.Common.{Fits, w32}
+use Rattle.std.proofs.Common.{ℕ, ◌+◌, ◌≤◌, ◌≡◌, sym, subst, arith, Fits, w32}
 use Rattle.geometry.specs.declared.Point.{Point}
 use Rattle.geometry.specs.Geometry.{dist}
 use Rattle.geometry.specs.Laws.{Within, nearest-within, dist-small}

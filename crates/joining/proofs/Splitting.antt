@@ -1,10 +1,5 @@
 -- The columns after a branch is split keep the nodes with two more. The idea: a Steiner node between p and c (Between.antt), and then the terminal below it.
-use Prim.Native.Nat.{ℕ, suc, ◌+◌, ◌≤◌, ◌<◌}
-use mathlib.Core.Path.{◌≡◌, refl, ap, sym, subst, ◌∙◌}
-use mathlib.Core.Logic.{◌≢◌, ⊎_elim}
-use mathlib.Core.List.{List, [], ◌∷◌, ◌++◌, reverse}
-use native.Mathlib.Omega.{arith}
-use lib.ListN.{length}
+use Rattle.std.proofs.Common.{ℕ, suc, ◌+◌, ◌≤◌, ◌<◌, ◌≡◌, refl, ap, sym, subst, ◌∙◌, ◌≢◌, ⊎_elim, List, [], ◌∷◌, ◌++◌, reverse, arith, length}
 use Rattle.geometry.specs.declared.Point.{Point}
 use Rattle.geometry.specs.Geometry.{dist}
 use Rattle.tree.specs.Tree.{Node, terminal, steiner, at, node_at, without, replace_last}

@@ -1,14 +1,5 @@
 -- One store in rows, and one change of links, by index: what stands there after it, and that lengths stay.
-use Prim.Native.Nat.{ℕ, ◌<◌}
-use mathlib.Core.Path.{◌≡◌, ap, sym, subst, ◌∙◌}
-use mathlib.Core.Logic.{◌≢◌}
-use mathlib.Core.Bool.{Bool, true, false, cond}
-use mathlib.Core.List.{List, [], ◌∷◌, ◌++◌, reverse}
-use native.Mathlib.Omega.{arith}
-use lib.ListN.{length, get_or, set, length-set}
-use lib.Seq.{get_or-set_same, get_or-set_other}
-use lib.Dec.{eqb}
-use lib.IntN.{pos}
+use Rattle.std.proofs.Common.{ℕ, ◌<◌, ◌≡◌, ap, sym, subst, ◌∙◌, ◌≢◌, Bool, true, false, cond, List, [], ◌∷◌, ◌++◌, reverse, arith, length, get_or, set, length-set, get_or-set_same, get_or-set_other, eqb, pos}
 use borrow.Author.Tests.{ne_eqb}
 use Rattle.tree.specs.Limits.{no_node}
 use Rattle.tree.specs.Tree.{Node, at, node_at}

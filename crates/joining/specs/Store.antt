@@ -1,11 +1,12 @@
 -- A tree kept in columns: rows of numbers, and columns of links. no_node stands for no node.
-use Rattle.std.specs.Prelude.{ℕ, zero, suc, ◌≤◌, ◌<◌, ◌≡◌, cond, List, [], ◌∷◌, ◌++◌, reverse, length, get_or, set, eqb, ℤ, Option, None, Some}
+use Rattle.std.specs.Prelude.{ℕ, zero, suc, ◌≤◌, ◌<◌, ◌≡◌, cond, List, [], ◌∷◌, ◌++◌, reverse, length, get_or, set, eqb, ℤ}
 use Rattle.tree.specs.Limits.{no_node}
 use Rattle.tree.specs.Memory.{point_at, type_of, named, name_in}
 use Rattle.tree.specs.Measures.{kind_of, number_of}
 use Rattle.tree.specs.declared.NodeIndex.{NodeIndex}
 use Rattle.tree.specs.Tree.{zero_figure, Node, Name, Parent, none, at, node_at}
 use Rattle.search.specs.Walk.{node_index}
+pub use Rattle.search.specs.Walk.{index_from, link_in}
 use Rattle.search.specs.Columns.{chain}
 use Rattle.joining.specs.declared.Row.{Row}
 use Rattle.joining.specs.Links.{ChildrenAre, Links, BackedBy, SizedLinks}
@@ -68,14 +69,6 @@ set_parent r i p = record { xs = r.xs; ys = r.ys; path = r.path; parent = set r.
 -- kind 0 is the source, 1 a Steiner node, 2 a terminal
 abbrev pub name_from : ℕ → ℕ → Name
 name_from kind k = name_in (named (type_of kind) k)
-
--- the node that a column's number names, and the number for it
-abbrev pub index_from : ℕ → Option NodeIndex
-index_from p = cond (eqb p no_node) None (Some (node_index p))
-
-abbrev pub link_in : Option NodeIndex → ℕ
-link_in None = no_node
-link_in (Some i) = i.0
 
 unfoldable pub parent_from : ℕ → Parent
 parent_from p = cond (eqb p no_node) none (at p)

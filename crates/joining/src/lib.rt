@@ -37,7 +37,8 @@ pub const PREVS: usize = tree::MOST_NODES;
 
 pub const NEXTS: usize = 2 * tree::MOST_NODES;
 
-// What an arena holds of each node, but for the links to its children. NO_NODE stands for the source's parent.
+// What an arena holds of each node, but for the links to its children. NO_NODE stands for the source's parent. (Arrays of fixed size, of which counts
+// say how much is in use: there is no heap.)
 #[derive(Clone, Copy)]
 pub struct NodeRows {
     pub points: [i32; POINTS],
@@ -78,7 +79,7 @@ pub struct SplitRows {
 }
 
 impl Counts {
-    // With one more terminal.
+    // With one more terminal. (Plain sums, here and below: the contract leaves room, and a checked one would test it.)
     pub fn one_more(self) -> Counts
         requires { (self.nodes < no_node) × (self.terminal.0 < no_node) }
         ensures { result ≡ one_more self }
@@ -113,17 +114,7 @@ fn entry_at<const K: usize>(columns: &[u16; MARKS], i: usize) -> u16
     columns[K * tree::MOST_NODES + i]
 }
 
-// The node that a column's number names.
-fn index_of(n: u16) -> Option<NodeIndex>
-    ensures { result ≡ index_from n }
-{
-    if n == tree::NO_NODE {
-        return None;
-    }
-    Some(NodeIndex(n))
-}
-
-// The number for a node's index in a column.
+// The number for a node's index in a column: NO_NODE for none, as `search::index_of` reads it.
 pub fn link_to(i: Option<NodeIndex>) -> u16
     ensures { result ≡ link_in i }
 {
@@ -133,11 +124,12 @@ pub fn link_to(i: Option<NodeIndex>) -> u16
     }
 }
 
+// A node's last child, and the sibling before it: columns 0 and 1, by names that tell them apart where they are read.
 pub fn last_child(links: &[u16; LINKS], i: usize) -> Option<NodeIndex>
     requires { i < most_nodes }
     ensures { result ≡ index_from (get_or (column 0 links.now) i 0) }
 {
-    index_of(entry_at::<0>(links, i))
+    search::index_of(entry_at::<0>(links, i))
 }
 
 // The sibling before node i.
@@ -145,7 +137,7 @@ pub fn child_before(links: &[u16; LINKS], i: usize) -> Option<NodeIndex>
     requires { i < most_nodes }
     ensures { result ≡ index_from (get_or (column 1 links.now) i 0) }
 {
-    index_of(entry_at::<1>(links, i))
+    search::index_of(entry_at::<1>(links, i))
 }
 
 // ---- rows
@@ -163,7 +155,7 @@ impl NodeRows {
         requires { i < most_nodes }
         ensures { result ≡ index_from (get_or (column 0 self.now.marks) i 0) }
     {
-        index_of(entry_at::<0>(&self.marks, i))
+        search::index_of(entry_at::<0>(&self.marks, i))
     }
 
     pub fn kind_at(&self, i: usize) -> NodeType
@@ -192,7 +184,7 @@ impl NodeRows {
         }
     }
 
-    // What the search reads of a node.
+    // What the search reads of a node. (`ReadsAt`, here and below, is of an index and the columns together: no struct has both.)
     fn view_at(&self, p: NodeIndex) -> NodeView
         requires { ReadsAt self.now.points self.now.path p.0 }
         ensures is { result ≡ read_in self.now.points self.now.path p.0 }
@@ -224,7 +216,8 @@ impl NodeRows {
         }
     }
 
-    // The rows of a terminal at q and of a Steiner node on the branch from p to c.
+    // The rows of a terminal at q and of a Steiner node on the branch from p to c. (A place is a `Join` where it is handed on; here and below it is
+    // taken apart.)
     #[tactic(auto, using(crate::proofs::Rowing::nearest_near))]
     fn split_rows(&self, k: Counts, p: NodeIndex, c: NodeIndex, q: Point) -> SplitRows
         requires reads_at { ReadsAt self.now.points self.now.path p.0 }
@@ -286,7 +279,7 @@ impl NodeRows {
     }
 }
 
-// ---- links
+// ---- links: lent without the arena, so that no contract has to say that the rest of it stays
 
 // Stores v in column K at a node; at NO_NODE it does nothing. Links go from column to column as numbers: an Option would be taken apart at one
 // and put together again at the next, and still need the test that it is within the column.
@@ -307,6 +300,7 @@ pub fn attach_last(links: &mut [u16; LINKS], p: NodeIndex, c: NodeIndex)
 {
     let i = usize::from(p);
     let j = usize::from(c);
+    // The links before and after are numbers, as held; no child is after the last.
     let before = links[i];
     links[i] = c.0;
     links[PREVS + j] = before;
@@ -324,6 +318,7 @@ pub fn detach(links: &mut [u16; LINKS], p: NodeIndex, c: NodeIndex)
     let before = links[PREVS + j];
     let after = links[NEXTS + j];
     put::<2>(links, before, after);
+    // As held, too: the last child has NO_NODE after it.
     if after == tree::NO_NODE {
         links[usize::from(p)] = before;
         return;
@@ -336,6 +331,7 @@ pub fn append_child(links: &mut [u16; LINKS], p: NodeIndex, c: NodeIndex)
     requires { (p.0 < most_nodes) × (c.0 < most_nodes) }
     ensures { Appended (links_in links.old) p.0 c.0 (links_in links.new) }
 {
+    // No child, as a column holds it.
     links[usize::from(c)] = tree::NO_NODE;
     attach_last(links, p, c);
 }
@@ -359,7 +355,7 @@ fn splice(links: &mut [u16; LINKS], p: NodeIndex, c: NodeIndex, i: NodeIndex, s:
     adopt(links, s, c, i);
 }
 
-// ---- joining
+// ---- joining: what holds in an arena before a step differs from step to step, so contracts say it, and not the type
 
 impl Arena {
     // The node n, with no children, goes last among those of its row's parent.

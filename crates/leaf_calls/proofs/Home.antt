@@ -1,7 +1,6 @@
 -- A signed parameter stands in a call as what is read back from its bits. These laws bring shapes of such numbers home to the numbers.
 -- Assumes nothing.
-use mathlib.Core.Path.{◌≡◌}
-use lib.IntN.{ℤ}
+use Rattle.std.proofs.Common.{◌≡◌, ℤ}
 use Rattle.geometry.specs.Signed.{In32, back, home}
 use Rattle.leaf_calls.specs.Shapes.{point_of, rectangle_of}
 

@@ -1,5 +1,5 @@
 // Functions of the leaf crates over plain numbers, which leaf_calls_c exports to C for compare/, where they are held to the Rust.
-// A point goes in as x, y; a rectangle as its bounds lower x, upper x, lower y, upper y.
+// A point goes in as x, y; a rectangle as its bounds lower x, upper x, lower y, upper y. C asks for one number at a call, so there is a function for each.
 #![tactic(auto)]
 
 ghost use Rattle.std.specs.Prelude.{◌≡◌};

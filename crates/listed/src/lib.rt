@@ -3,7 +3,7 @@
 
 ghost use Rattle.std.specs.Prelude.{take};
 ghost use Rattle.editing.specs.Edits.{insert_terminal_with_steiner, insert_terminal_with_constraints};
-ghost use Rattle.global_router.specs.Stored.{tree_of, Stored};
+ghost use Rattle.global_router.specs.Stored.{tree_of};
 ghost use Rattle.global_router.specs.Editing.{EditedTo};
 
 use geometry::Point;
@@ -18,7 +18,6 @@ pub fn insert_terminal_with_steiner(
     point: Point,
     keepouts: &Rectangles,
 ) -> Result<NodeName, Refusal>
-    requires { Stored tree.old }
     ensures { EditedTo (insert_terminal_with_steiner (tree_of tree.old) point (take keepouts.now.count keepouts.now.list)) tree.old result tree.new }
 {
     let list = keepouts.lent();
@@ -32,7 +31,6 @@ pub fn insert_terminal_with_constraints(
     allowed: i32,
     keepouts: &Rectangles,
 ) -> Result<NodeName, Refusal>
-    requires { Stored tree.old }
     ensures { EditedTo (insert_terminal_with_constraints (tree_of tree.old) point allowed (take keepouts.now.count keepouts.now.list)) tree.old result tree.new }
 {
     tree.insert_terminal_with_constraints(point, allowed, keepouts.lent())

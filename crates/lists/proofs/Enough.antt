@@ -1,9 +1,5 @@
 -- As many steps as there are nodes are enough for a path: a parent's rank is below its child's.
-use Prim.Native.Nat.{ℕ, zero, suc, ◌+◌, ◌≤◌, ◌<◌}
-use mathlib.Core.Path.{◌≡◌, refl, ap, sym, ◌∙◌}
-use mathlib.Core.List.{List, [], ◌∷◌, ◌++◌}
-use native.Mathlib.Omega.{arith}
-use lib.ListN.{length}
+use Rattle.std.proofs.Common.{ℕ, zero, suc, ◌+◌, ◌≤◌, ◌<◌, ◌≡◌, refl, ap, sym, ◌∙◌, List, [], ◌∷◌, ◌++◌, arith, length}
 use Rattle.tree.specs.Tree.{Node, Parent, none, at, node_at}
 use Rattle.tree.specs.Measures.{of_parent, path_down, path_to}
 use Rattle.tree.specs.Shape.{Linked}

@@ -1,16 +1,11 @@
 -- A path as it is written: the parent's, then the node. And the loop that lists the nodes of a kind.
-use mathlib.Core.Path.{◌≡◌, refl, ap, sym, ◌∙◌}
-use mathlib.Core.List.{List, [], ◌∷◌, ◌++◌}
-use Prim.Native.Nat.{ℕ, zero, suc, ◌+◌, ◌-◌, ◌≤◌, ◌<◌}
-use native.Mathlib.Omega.{arith}
-use lib.ListN.{length, get_or}
+use Rattle.std.proofs.Common.{◌≡◌, refl, ap, sym, ◌∙◌, List, [], ◌∷◌, ◌++◌, ℕ, zero, suc, ◌+◌, ◌-◌, ◌≤◌, ◌<◌, arith, length, get_or, Option}
 use Rattle.wire.specs.Puts.{Puts, puts_as, puts_then}
 use Rattle.tree.specs.Tree.{Node, Parent, none, at, node_at}
 use Rattle.tree.specs.Measures.{kind_of, of_parent, path_down, path_to, those, of_kind}
-use Rattle.std.specs.Prelude.{Option}
 use Rattle.tree.specs.declared.NodeIndex.{NodeIndex}
 use Rattle.joining.specs.Store.{Columns, index_from}
-use Rattle.measures.proofs.Lent.{Read}
+use Rattle.measures.proofs.Reading.{Read}
 use Rattle.measures.proofs.KindsOf.{is_kind, one_more, none_more}
 
 module _ (ns : List Node) (i : ℕ) where

@@ -1,11 +1,5 @@
 -- A node's children from the last to the first, as a loop or a recursion over their links meets them.
-use Prim.Native.Nat.{ℕ, ◌<◌}
-use mathlib.Core.Path.{◌≡◌, refl, ap, sym, subst, ◌∙◌}
-use mathlib.Core.Logic.{inl, inr}
-use mathlib.Core.List.{List, [], ◌∷◌, reverse}
-use native.Mathlib.Omega.{arith}
-use lib.ListN.{length, get_or}
-use Rattle.std.specs.Prelude.{Option, None, Some}
+use Rattle.std.proofs.Common.{ℕ, ◌<◌, ◌≡◌, refl, ap, sym, subst, ◌∙◌, inl, inr, List, [], ◌∷◌, reverse, arith, length, get_or, Option, None, Some}
 use Rattle.tree.specs.Limits.{no_node}
 use Rattle.tree.specs.Tree.{Node, node_at}
 use Rattle.tree.specs.declared.NodeIndex.{NodeIndex}
@@ -14,7 +8,7 @@ use Rattle.search.proofs.Chains.{Unrolled, unroll, ended}
 use Rattle.joining.specs.Store.{Columns, index_from, link_in}
 use Rattle.joining.proofs.Names.{link_in-from}
 use Rattle.measures.specs.Children.{chain_at, Siblings}
-use Rattle.measures.proofs.Lent.{Read}
+use Rattle.measures.proofs.Reading.{Read}
 
 -- a link that is read is the number that stands there
 pub link_read : {child : Option NodeIndex} (x : ℕ) → child ≡ index_from x → link_in child ≡ x

@@ -1,12 +1,5 @@
 -- A node's kind as it is read, and the nodes of a kind one node further.
-use mathlib.Core.Path.{◌≡◌, refl, ap, sym, ◌∙◌}
-use mathlib.Core.Bool.{Bool}
-use mathlib.Core.List.{List, [], ◌∷◌, ◌++◌, append-nil}
-use Prim.Native.Nat.{ℕ, zero, suc, ◌+◌, ◌<◌}
-use native.Mathlib.Numerals.{add-one}
-use native.Mathlib.Omega.{arith}
-use lib.ListN.{get_or}
-use lib.Dec.{eqb}
+use Rattle.std.proofs.Common.{◌≡◌, refl, ap, sym, ◌∙◌, Bool, List, [], ◌∷◌, ◌++◌, append-nil, ℕ, zero, suc, ◌+◌, ◌<◌, add-one, arith, get_or, eqb}
 use borrow.Author.Tests.{eq-eqb, ne_eqb}
 use Rattle.tree.specs.Tree.{Node, node_at}
 use Rattle.tree.specs.Measures.{kind_of, those}
@@ -14,9 +7,9 @@ use Rattle.tree.specs.Memory.{type_number, type_of}
 use Rattle.tree.specs.declared.NodeType.{NodeType}
 use Rattle.tree.specs.declared.NodeType.TheVariants as T
 use Rattle.joining.specs.Store.{Columns, name_from}
-use Rattle.measures.proofs.Lent.{Read}
+use Rattle.measures.proofs.Reading.{Read}
 
-kind-named : (k n : ℕ) → type_number (type_of k) ≡ kind_of (name_from k n)
+pub kind-named : (k n : ℕ) → type_number (type_of k) ≡ kind_of (name_from k n)
 kind-named zero n = refl
 kind-named (suc zero) n = refl
 kind-named (suc (suc k)) n = refl

@@ -1,4 +1,5 @@
-pub mod Lent
+pub mod Reading
+pub mod Lending
 pub mod Children
 pub mod Levels
 pub mod Summed

@@ -1,16 +1,12 @@
 -- The loop over a node's children, from the last to the first: the longest run so far and the longest of those that are left make the longest of all.
-use Prim.Native.Nat.{ℕ, zero, suc, ◌+◌, ◌-◌, ◌*◌, ◌≤◌, ◌<◌, max}
-use mathlib.Core.Path.{◌≡◌, refl, ap, sym, ◌∙◌}
-use mathlib.Core.List.{List, [], ◌∷◌, ◌++◌, reverse, reverse-cons}
-use native.Mathlib.Omega.{arith}
-use lib.ListN.{length, get_or}
+use Rattle.std.proofs.Common.{ℕ, zero, suc, ◌+◌, ◌-◌, ◌*◌, ◌≤◌, ◌<◌, max, ◌≡◌, refl, ap, sym, ◌∙◌, List, [], ◌∷◌, ◌++◌, reverse, arith, length, get_or, Option, None, Some}
+use mathlib.Core.List.{reverse-cons}
 use Rattle.geometry.specs.declared.Point.{Point}
 use Rattle.geometry.specs.Geometry.{dist}
 use Rattle.geometry.specs.Laws.{Within}
 use Rattle.tree.specs.Limits.{across, reach}
 use Rattle.tree.specs.Tree.{Node, node_at}
 use Rattle.tree.specs.Measures.{greatest, worst_below, worst}
-use Rattle.std.specs.Prelude.{Option, None, Some}
 use Rattle.std.specs.Ordering.{ord_max, nat_cmp}
 use Rattle.std.proofs.lemmas.Bool.Decides.{nat_tests}
 use Rattle.tree.specs.declared.NodeIndex.{NodeIndex}
@@ -18,7 +14,7 @@ use Rattle.joining.specs.Store.{Columns, index_from}
 use Rattle.measures.specs.Children.{chain_at, Siblings}
 use Rattle.measures.proofs.Children.{siblings_of, children_read, chain-none, child_low, siblings_before, chain_step}
 use Rattle.tree.specs.Memory.{point_at}
-use Rattle.measures.proofs.Lent.{Read, point_read, near_read}
+use Rattle.measures.proofs.Reading.{Read, point_read, near_read}
 use Rattle.measures.proofs.Summed.{near_by}
 
 -- the library's `max`

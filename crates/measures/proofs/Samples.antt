@@ -1,8 +1,5 @@
 -- The tree of M6, and what the definitions of measures and lists give for it: total 16, worst 12.
-use mathlib.Core.Path.{◌≡◌, refl}
-use mathlib.Core.List.{List, [], ◌∷◌}
-use Prim.Native.Nat.{ℕ}
-use lib.IntN.{pos}
+use Rattle.std.proofs.Common.{◌≡◌, refl, List, [], ◌∷◌, ℕ, pos}
 use Rattle.geometry.specs.Geometry.{gap, dist}
 use Rattle.tree.specs.Tree.{zero_figure, Node, source, steiner, terminal, Name, Parent, none, at, node_at, sum_to, total}
 use Rattle.tree.specs.Measures.{greatest, worst_below, worst, path_down, path_to, those, steiner_nodes, terminal_nodes, missing, found, lookup}

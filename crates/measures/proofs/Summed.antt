@@ -1,20 +1,14 @@
 -- The total: the distance from a node to its parent, and the loop that sums it.
-use Prim.Native.Nat.{ℕ, ◌+◌, ◌*◌, ◌≤◌, ◌<◌}
-use mathlib.Core.Path.{◌≡◌, refl, ap, sym, ◌∙◌}
-use mathlib.Core.List.{List}
-use native.Mathlib.Numerals.{add-one}
-use native.Mathlib.Omega.{arith}
-use lib.ListN.{length, get_or}
+use Rattle.std.proofs.Common.{ℕ, ◌+◌, ◌*◌, ◌≤◌, ◌<◌, ◌≡◌, refl, ap, sym, ◌∙◌, List, add-one, arith, length, get_or, None, Some}
 use Rattle.geometry.specs.declared.Point.{Point}
 use Rattle.geometry.specs.Geometry.{dist}
 use Rattle.geometry.specs.Laws.{Within, dist-small}
 use Rattle.tree.specs.Limits.{across, reach}
 use Rattle.tree.specs.Tree.{Node, node_at, sum_to, to_parent, edge, total}
 use Rattle.tree.specs.Memory.{point_at}
-use Rattle.std.specs.Prelude.{None, Some}
 use Rattle.tree.specs.declared.NodeIndex.{NodeIndex}
 use Rattle.joining.specs.Store.{Columns, index_from}
-use Rattle.measures.proofs.Lent.{Read, parent_is, parent_low, point_read, near_read}
+use Rattle.measures.proofs.Reading.{Read, parent_is, parent_low, point_read, near_read}
 
 pub near_by : {p q : Point} {d : ℕ} → Within reach p → Within reach q → d ≡ dist p q → d ≤ across
 near_by {p} {q} {d} a b e = omega (arith, dist-small {M = reach} a b)

@@ -1,10 +1,5 @@
 -- The worst run is what the paper says, "the longest sum from source to any leaf": no node's Manhattan sum along its parents is longer, and a leaf's is as long.
-use Prim.Native.Nat.{ℕ, zero, suc, ◌+◌, ◌≤◌, ◌<◌}
-use mathlib.Core.Path.{◌≡◌, refl, ap}
-use mathlib.Core.Logic.{⊎_elim}
-use mathlib.Core.List.{List, [], ◌∷◌}
-use native.Mathlib.Omega.{arith}
-use lib.ListN.{length}
+use Rattle.std.proofs.Common.{ℕ, zero, suc, ◌+◌, ◌≤◌, ◌<◌, ◌≡◌, refl, ap, ⊎_elim, List, [], ◌∷◌, arith, length}
 use Rattle.geometry.specs.Geometry.{dist}
 use Rattle.tree.specs.Tree.{Node, Parent, none, at, node_at, to_parent, above, climbed}
 use Rattle.tree.specs.Measures.{greatest, worst_below, worst}

@@ -1,5 +1,5 @@
--- A tree in an arena that is lent to be read. Every function that reads one asks for `Lends` and answers about `nodes_in`: `nodes_are` in the crate
--- joining, proofs/Reading.antt, says that these are the nodes of whatever well-formed tree stands there.
+-- A tree in an arena that is lent to be read. The type `Lent` says that one stands there, and every function that reads one answers about `nodes_in`:
+-- `nodes_are` in the crate joining, proofs/Reading.antt, says that these are the nodes of whatever well-formed tree stands there.
 use Rattle.std.specs.Prelude.{ℕ, ◌+◌, ◌≤◌, ◌≡◌, List, length}
 use Rattle.tree.specs.Limits.{most_nodes}
 use Rattle.tree.specs.Tree.{Node, Tree}
@@ -20,7 +20,7 @@ pub record Held (n : ℕ) (c : Columns) : Type 0 where
   pub sized : Sized (length c.rows.xs) c
   pub room : n ≤ length c.rows.xs
 
--- ---- for contracts: what is read of a tree in an arena, that one stands there, and its nodes
+-- ---- what is read of a tree in an arena; for the type, that one stands there; for contracts, its nodes
 abbrev pub lent : Arena → Columns
 lent a = columns_of (stored a)
 

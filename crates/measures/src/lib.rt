@@ -10,30 +10,35 @@ ghost use Rattle.measures.specs.Standing.{Lends, nodes_in};
 use joining::Arena;
 use tree::NodeIndex;
 
+// A tree in an arena, lent to be read.
+#[derive(Clone, Copy)]
+pub struct Lent<'a> {
+    pub arena: &'a Arena,
+    pub ghost held: { ∥ Lends arena.now ∥₁ },
+}
+
 // ---- the total
 
 // From node i to its parent; 0 for the source.
-fn edge(arena: &Arena, i: usize) -> u32
-    requires lends { Lends arena.now }
-    requires i_lt_n { i < arena.now.counts.nodes }
-    ensures { (result ≡ edge (nodes_in arena.now) i) × (result ≤ across) }
+fn edge(tree: Lent, i: usize) -> u32
+    requires { i < tree.arena.now.counts.nodes }
+    ensures { (result ≡ edge (nodes_in tree.entry.arena.now) i) × (result ≤ across) }
 {
-    let Some(p) = arena.nodes.parent_at(i) else {
+    let Some(p) = tree.arena.nodes.parent_at(i) else {
         return 0;
     };
-    let a = arena.nodes.point_at(usize::from(p));
-    let b = arena.nodes.point_at(i);
+    let a = tree.arena.nodes.point_at(usize::from(p));
+    let b = tree.arena.nodes.point_at(i);
     search::distance(a, b)
 }
 
 // d to the parent, summed over nodes.
-pub fn total_wirelength(arena: &Arena) -> u32
-    requires { Lends arena.now }
-    ensures { (result ≡ total (nodes_in arena.now)) × (result ≤ across * arena.now.counts.nodes) }
+pub fn total_wirelength(tree: Lent) -> u32
+    ensures { (result ≡ total (nodes_in tree.entry.arena.now)) × (result ≤ across * tree.entry.arena.now.counts.nodes) }
 {
     let mut sum = 0;
-    for i in 0..usize::from(arena.counts.nodes) {
-        sum += edge(arena, i);
+    for i in 0..usize::from(tree.arena.counts.nodes) {
+        sum += edge(tree, i);
     }
     sum
 }
@@ -41,40 +46,38 @@ pub fn total_wirelength(arena: &Arena) -> u32
 // ---- the worst
 
 // The longest sum from a node down to any leaf, over at most `left` levels.
-fn worst_below(arena: &Arena, node: NodeIndex, left: usize) -> u32
-    requires lends { Lends arena.now }
-    requires node_lt_n { (node.0 < arena.now.counts.nodes) × (left ≤ most_nodes) }
-    ensures { (result ≡ worst_below (nodes_in arena.now) left node.0) × (result ≤ across * left) }
+fn worst_below(tree: Lent, node: NodeIndex, left: usize) -> u32
+    requires { (node.0 < tree.arena.now.counts.nodes) × (left ≤ most_nodes) }
+    ensures { (result ≡ worst_below (nodes_in tree.entry.arena.now) left node.0) × (result ≤ across * left) }
 {
     if left == 0 {
         return 0;
     }
     let i = usize::from(node);
-    let p = arena.nodes.point_at(i);
+    let p = tree.arena.nodes.point_at(i);
     let mut longest = 0;
-    let mut child = joining::last_child(&arena.links, i);
+    let mut child = joining::last_child(&tree.arena.links, i);
     while let Some(c) = child {
         let k = usize::from(c);
-        let q = arena.nodes.point_at(k);
-        let below = worst_below(arena, c, left - 1);
+        let q = tree.arena.nodes.point_at(k);
+        let below = worst_below(tree, c, left - 1);
         let run = search::distance(p, q) + below;
         longest = longest.max(run);
-        child = joining::child_before(&arena.links, k);
+        child = joining::child_before(&tree.arena.links, k);
     }
     longest
 }
 
 // The longest sum from source to any leaf.
-pub fn worst_wirelength(arena: &Arena) -> u32
-    requires { Lends arena.now }
-    ensures { (result ≡ worst (nodes_in arena.now)) × (result ≤ across * arena.now.counts.nodes) }
+pub fn worst_wirelength(tree: Lent) -> u32
+    ensures { (result ≡ worst (nodes_in tree.entry.arena.now)) × (result ≤ across * tree.entry.arena.now.counts.nodes) }
 {
-    worst_below(arena, NodeIndex(0), usize::from(arena.counts.nodes))
+    worst_below(tree, NodeIndex(0), usize::from(tree.arena.counts.nodes))
 }
 
 // ---- what comes with a tree, and its measures
 
-// A, W, L and V.
+// A, W, L and V; the first two come with a table, and are handed on.
 #[derive(Clone, Copy)]
 pub struct Figures {
     pub allowed: i32,
@@ -83,17 +86,16 @@ pub struct Figures {
     pub worst: u32,
 }
 
-pub fn figures_of(arena: &Arena, allowed: i32, farthest: u32) -> Figures
-    requires { Lends arena.now }
+pub fn figures_of(tree: Lent, allowed: i32, farthest: u32) -> Figures
     ensures allowed { result.allowed ≡ allowed }
     ensures farthest { result.farthest ≡ farthest }
-    ensures total { result.total ≡ total (nodes_in arena.now) }
-    ensures worst { result.worst ≡ worst (nodes_in arena.now) }
+    ensures total { result.total ≡ total (nodes_in tree.entry.arena.now) }
+    ensures worst { result.worst ≡ worst (nodes_in tree.entry.arena.now) }
 {
     Figures {
         allowed,
         farthest,
-        total: total_wirelength(arena),
-        worst: worst_wirelength(arena),
+        total: total_wirelength(tree),
+        worst: worst_wirelength(tree),
     }
 }

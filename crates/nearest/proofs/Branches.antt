@@ -1,11 +1,5 @@
 -- What is alone the nearest in the columns is so in the tree. The idea: L and 2·D of a branch are sums and differences of the columns' numbers.
-use Prim.Native.Nat.{ℕ, zero, suc, ◌+◌, ◌*◌, ◌/◌, ◌≤◌, ◌<◌}
-use mathlib.Core.Path.{◌≡◌, sym, ap, subst, ◌∙◌}
-use mathlib.Core.Bool.{true}
-use mathlib.Core.List.{List}
-use native.Mathlib.Omega.{arith}
-use lib.ListN.{get_or}
-use lib.IntN.{ℤ, pos}
+use Rattle.std.proofs.Common.{ℕ, zero, suc, ◌+◌, ◌*◌, ◌/◌, ◌≤◌, ◌<◌, ◌≡◌, sym, ap, subst, ◌∙◌, true, List, arith, get_or, ℤ, pos}
 use lib.Signed.{le_z}
 use borrow.Author.Tests.{le-leb, leb-true}
 use Rattle.geometry.specs.declared.Point.{Point}

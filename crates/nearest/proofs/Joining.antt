@@ -1,13 +1,6 @@
 -- The place on a branch that is alone the nearest is where the search joins. The idea: without keepouts no branch is skipped; and any two trees that the columns
 -- keep have the same answer, so that it is enough to know one of them.
-use Prim.Native.Nat.{ℕ, ◌+◌, ◌<◌}
-use mathlib.Core.Path.{◌≡◌, refl, sym, ap, subst, ◌∙◌}
-use mathlib.Core.Bool.{false}
-use mathlib.Core.List.{List}
-use native.Mathlib.Omega.{arith}
-use lib.ListN.{length, get_or}
-use lib.IntN.{ℤ}
-use Rattle.std.specs.Prelude.{Option, Some}
+use Rattle.std.proofs.Common.{ℕ, ◌+◌, ◌<◌, ◌≡◌, refl, sym, ap, subst, ◌∙◌, false, List, arith, length, get_or, ℤ, Option, Some}
 use Rattle.geometry.specs.declared.Point.{Point}
 use Rattle.tree.specs.declared.NodeIndex.{NodeIndex}
 use Rattle.tree.specs.Tree.{Node, node_at}

@@ -1,10 +1,7 @@
 -- The loop that keeps the least rank and the next: its start, a turn, its end; and when the least is of a branch that is alone the nearest. The idea: the
 -- second changes only to what the first leaves, so that whatever is not the least is not below it. This holds of any ranks.
-use Prim.Native.Nat.{ℕ, ◌+◌, ◌/◌, ◌%◌, ◌≤◌, ◌<◌, min, max}
-use mathlib.Core.Path.{◌≡◌, sym, ap, ◌∙◌}
-use mathlib.Core.Logic.{◌≢◌}
-use native.Mathlib.Omega.{arith}
-use native.Mathlib.Decide.{ℕ_discrete, dec_lt}
+use Rattle.std.proofs.Common.{ℕ, ◌+◌, ◌/◌, ◌%◌, ◌≤◌, ◌<◌, min, max, ◌≡◌, sym, ap, ◌∙◌, ◌≢◌, arith}
+use Rattle.std.proofs.Math.Decide.{ℕ_discrete, dec_lt}
 use Rattle.nearest.specs.declared.Least.{Least}
 use Rattle.nearest.specs.Ranks.{branch_indices, beyond, no_rank}
 use Rattle.nearest.specs.Sole.{TwoLeast, Sole}

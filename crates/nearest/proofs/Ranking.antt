@@ -1,10 +1,6 @@
 -- What a rank tells: its child's index, whether its branch is within the allowance, and then twice its D. The idea: the index is below `branch_indices`, of which the
 -- rest of the number is a multiple.
-use Prim.Native.Nat.{ℕ, ◌+◌, ◌*◌, ◌/◌, ◌%◌, ◌≤◌, ◌<◌}
-use mathlib.Core.Path.{◌≡◌, refl}
-use mathlib.Core.Bool.{Bool, true, false, cond}
-use native.Mathlib.Omega.{arith}
-use lib.Dec.{ltb}
+use Rattle.std.proofs.Common.{ℕ, ◌+◌, ◌*◌, ◌/◌, ◌%◌, ◌≤◌, ◌<◌, ◌≡◌, refl, Bool, true, false, cond, arith, ltb}
 use borrow.Author.Tests.{ltb-true, ltb-false}
 use Rattle.nearest.specs.Ranks.{branch_indices, beyond, excess, length_by, twice_by, branch_rank}
 

@@ -1,14 +1,7 @@
 -- What the loop tells is right: the least rank, where the next has a greater D, is that of a branch alone the nearest in the columns. The idea: the ranks with the
 -- column of distances are those with the distances themselves.
-use Prim.Native.Nat.{ℕ, ◌+◌, ◌-◌, ◌*◌, ◌<◌}
-use mathlib.Core.Path.{◌≡◌}
-use mathlib.Core.List.{List}
-use native.Mathlib.Omega.{arith}
-use lib.ListN.{get_or}
-use lib.Dec.{leb}
-use lib.IntN.{ℤ, pos}
+use Rattle.std.proofs.Common.{ℕ, ◌+◌, ◌-◌, ◌*◌, ◌<◌, ◌≡◌, List, arith, get_or, leb, ℤ, pos, Option, Some, None}
 use lib.Signed.{le_z}
-use Rattle.std.specs.Prelude.{Option, Some, None}
 use Rattle.tree.specs.declared.NodeIndex.{NodeIndex}
 use Rattle.search.specs.declared.Query.{Query}
 use Rattle.nearest.specs.declared.Least.{Least}

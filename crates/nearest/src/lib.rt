@@ -28,7 +28,7 @@ const BRANCH_INDICES: u64 = 65536;
 // More than the rank of any branch within the allowance.
 const BEYOND: u64 = 1152921504606846976;
 
-// The rank where there is no branch.
+// The rank where there is no branch: above every other, so that the least of ranks is a `min`, for which an Option would take a branch of the code.
 const NO_RANK: u64 = 18446744073709551615;
 
 // Points in two columns.
@@ -54,7 +54,8 @@ struct Least {
     second: u64,
 }
 
-// ---- the nearest node
+// ---- the nearest node. Columns are longer than the tree, which has n nodes: there is no heap. So `NearPoints` is of the columns, n and q together, and
+// no struct has it.
 
 impl PointColumns<'_> {
     // The distance from the i-th point to q. In 32 bits, so that the compiler makes a loop over it wide.
@@ -67,7 +68,8 @@ impl PointColumns<'_> {
         x + y
     }
 
-    // Node i in the order of distance to q, then of index: one number, which loses neither.
+    // Node i in the order of distance to q, then of index: one number, which loses neither. (`as`, here and below: each number fits by the
+    // contract or by the remainder; `try_from` would test that again, in the loops that are to be wide.)
     fn rank(self, i: usize, q: Point) -> u32
         requires { NearAt q self.xs.now self.ys.now i × (i < node_indices) }
         ensures { result ≡ node_rank self.entry.xs.now self.entry.ys.now q i }
@@ -179,7 +181,7 @@ fn find_nearest(n: usize, query: Query, nodes: NodeColumns, parent: &[u16]) -> O
     };
     put_distances(&mut e, n, query.point, points);
     let branches = BranchColumns {
-        allowed: query.allowed as u32,
+        allowed: query.allowed.unsigned_abs(),
         e: &e,
         path: nodes.path,
         parent,
@@ -200,6 +202,7 @@ fn join_on(c: NodeIndex, q: Point, nodes: NodeColumns, parent: &[u16]) -> Join
 }
 
 // The answer at a place that was found without a walk: nothing is in the way, so every branch counts as examined, one for each node but the source.
+// (`as`: n is at most MOST_NODES.)
 fn found_at(join: Join, n: usize) -> Found
     requires { (0 < n) × (n ≤ most_nodes) }
     ensures { (result.join ≡ join) × (result.looks + 1 ≡ n) }

@@ -1,13 +1,7 @@
 -- The columns keep the nodes once node i is gone and the places after it have moved down. The idea: a node's index before and after are tied by one
 -- map, `closed i`, and a chain of links that does not pass i is read through that map.
-use Prim.Native.Nat.{ℕ, ◌≤◌, ◌<◌}
-use mathlib.Core.Path.{◌≡◌, refl, ap, sym, subst, ◌∙◌}
-use mathlib.Core.Logic.{◌≢◌, inl, inr}
-use mathlib.Core.Bool.{Bool, true, false}
-use mathlib.Core.List.{List, [], ◌∷◌, map, reverse, reverse_aux}
-use native.Mathlib.Omega.{arith}
-use lib.ListN.{length, get_or}
-use lib.Dec.{eqb}
+use Rattle.std.proofs.Common.{ℕ, ◌≤◌, ◌<◌, ◌≡◌, refl, ap, sym, subst, ◌∙◌, ◌≢◌, inl, inr, Bool, true, false, List, [], ◌∷◌, map, reverse, arith, length, get_or, eqb}
+use mathlib.Core.List.{reverse_aux}
 use borrow.Author.Tests.{eqb-true, eqb-false}
 use Rattle.tree.specs.Limits.{no_node}
 use Rattle.tree.specs.Memory.{name_in, named, type_of}

@@ -1,12 +1,6 @@
 -- The loop over all nodes, from the highest index down: its start, a turn, its end. The idea: what is left of the pass, over the nodes that stand in the
 -- columns, gives the optimized nodes, whatever tree stood there at first.
-use Prim.Native.Nat.{ℕ, suc, ◌+◌, ◌≤◌}
-use mathlib.Core.Path.{◌≡◌, refl, ap, sym, subst, ◌∙◌}
-use mathlib.Core.Bool.{Bool, true, false, cond}
-use mathlib.Core.List.{List}
-use native.Mathlib.Omega.{arith}
-use native.Mathlib.Numerals.{add-one}
-use lib.ListN.{length}
+use Rattle.std.proofs.Common.{ℕ, suc, ◌+◌, ◌≤◌, ◌≡◌, refl, ap, sym, subst, ◌∙◌, Bool, true, false, cond, List, arith, add-one, length}
 use Rattle.tree.specs.Tree.{Node, Tree}
 use Rattle.tree.specs.WellFormed.{WellFormed}
 use Rattle.tree.specs.Optimize.{lone, remove, optimized, with_nodes}

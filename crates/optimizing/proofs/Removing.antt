@@ -1,14 +1,7 @@
 -- A lone node goes from the columns: they keep the nodes linked past it but for itself, and once they have closed up, all the nodes that remain.
 -- The idea: the two changes of links are those of joining, at the parent p and its new child c; every other list of children is apart from both.
-use Prim.Native.Nat.{ℕ, ◌≤◌, ◌<◌}
-use mathlib.Core.Path.{◌≡◌, refl, ap, sym, subst, ◌∙◌}
-use mathlib.Core.Logic.{◌≢◌}
-use mathlib.Core.Bool.{Bool, true, false}
-use mathlib.Core.List.{List, [], ◌∷◌, ◌++◌, reverse}
-use native.Mathlib.Omega.{arith}
-use native.Mathlib.Decide.{dec_lt}
-use lib.ListN.{length, get_or}
-use lib.Dec.{eqb}
+use Rattle.std.proofs.Common.{ℕ, ◌≤◌, ◌<◌, ◌≡◌, refl, ap, sym, subst, ◌∙◌, ◌≢◌, Bool, true, false, List, [], ◌∷◌, ◌++◌, reverse, arith, length, get_or, eqb}
+use Rattle.std.proofs.Math.Decide.{dec_lt}
 use Rattle.tree.specs.Limits.{no_node}
 use Rattle.tree.specs.Tree.{zero_figure, Node, at, node_at, without, replace_last, with_parent}
 use Rattle.tree.specs.Shape.{Linked, count, is_at}

@@ -1,10 +1,5 @@
 -- What the code that takes one node out needs, and what it shows: from a tree that stands in the columns, the tree with that node gone.
-use Prim.Native.Nat.{ℕ, ◌≤◌, ◌<◌}
-use mathlib.Core.Path.{◌≡◌, ap, sym, subst, ◌∙◌}
-use mathlib.Core.Bool.{Bool, true, false}
-use mathlib.Core.List.{List, reverse}
-use native.Mathlib.Omega.{arith}
-use lib.ListN.{length, get_or}
+use Rattle.std.proofs.Common.{ℕ, ◌≤◌, ◌<◌, ◌≡◌, ap, sym, subst, ◌∙◌, Bool, true, false, List, reverse, arith, length, get_or}
 use Rattle.tree.specs.Limits.{no_node}
 use Rattle.tree.specs.Tree.{Node, Tree, at, node_at}
 use Rattle.tree.specs.WellFormed.{WellFormed}

@@ -1,13 +1,6 @@
 -- An output, refused or written, by its length; or by m, how long it is by the same writer on a buffer of its own.
-use mathlib.Core.Path.{◌≡◌, ap, subst, ◌∙◌}
-use mathlib.Core.Bool.{true, false}
-use mathlib.Core.List.{List, ◌++◌}
-use Prim.Native.Nat.{ℕ, ◌+◌, ◌≤◌, ◌<◌}
-use native.Mathlib.Omega.{arith}
-use lib.ListN.{length, drop}
-use lib.Dec.{leb}
+use Rattle.std.proofs.Common.{◌≡◌, ap, subst, ◌∙◌, true, false, List, ◌++◌, ℕ, ◌+◌, ◌≤◌, ◌<◌, arith, length, drop, leb, Result, Ok, Err}
 use borrow.Author.Tests.{le-leb, lt-leb}
-use Rattle.std.specs.Prelude.{Result, Ok, Err}
 use Rattle.wire.specs.Puts.{Puts, last_place, puts_room}
 use Rattle.refusal.specs.declared.Refusal.{Refusal}
 use Rattle.refusal.specs.declared.Refusal.TheVariants.{NoRoom}

@@ -1,10 +1,6 @@
 -- Bytes at the start of a buffer.
-use mathlib.Core.Path.{◌≡◌, ap, ◌∙◌}
-use mathlib.Core.List.{List, ◌++◌}
-use Prim.Native.Nat.{ℕ, ◌+◌, ◌≤◌}
-use native.Mathlib.Omega.{arith}
-use lib.ListN.{length, take, drop}
-use lib.Seq.{take-append_seam}
+use Rattle.std.proofs.Common.{◌≡◌, ap, ◌∙◌, List, ◌++◌, ℕ, ◌+◌, ◌≤◌, arith, length, take, drop}
+use Rattle.std.proofs.Math.Seq.{take-append_seam}
 use Rattle.wire.specs.Puts.{Puts, puts_room}
 
 pub put_first : {xs out out' : List ℕ} {n : ℕ} → Puts out 0 xs out' n → length xs ≤ length out → (n ≡ length xs) × (take (length xs) out' ≡ xs)

@@ -1,13 +1,5 @@
 -- A job cut past the longest that passes test 2 gives the same output: its length is wrong either way, and test 2 reads the header alone.
-use mathlib.Core.Path.{◌≡◌, refl, sym, ap, ◌∙◌}
-use mathlib.Core.Logic.{⊎_elim}
-use mathlib.Core.Bool.{Bool, true, false, cond, not, ◌||◌}
-use mathlib.Core.List.{List}
-use Prim.Native.Nat.{ℕ, ◌+◌, ◌≤◌, ◌<◌}
-use native.Mathlib.Omega.{arith}
-use lib.ListN.{length, take}
-use lib.Seq.{take_all, get_or-take, length-take-le}
-use lib.Dec.{ltb}
+use Rattle.std.proofs.Common.{◌≡◌, refl, sym, ap, ◌∙◌, ⊎_elim, Bool, true, false, cond, not, ◌||◌, List, ℕ, ◌+◌, ◌≤◌, ◌<◌, arith, length, take, take_all, get_or-take, length-take-le, ltb}
 use borrow.Author.Tests.{le-ltb, ne_eqb}
 use Rattle.wire.specs.Puts.{le-or}
 use Rattle.wire.specs.Fields.{le16}

@@ -1,12 +1,5 @@
 -- No output is longer than `most_output`: a number has at most ten digits, the text at most 65,536 bytes where it is written.
-use mathlib.Core.Path.{◌≡◌, refl}
-use mathlib.Core.Bool.{Bool, true, false, cond}
-use mathlib.Core.List.{List, [], ◌∷◌, ◌++◌}
-use Prim.Native.Nat.{ℕ, zero, suc, ◌+◌, ◌/◌, ◌%◌, ◌≤◌}
-use native.Mathlib.Omega.{arith}
-use lib.IntN.{ℤ, pos, negsuc}
-use lib.ListN.{length, length-append}
-use lib.Dec.{ltb, leb}
+use Rattle.std.proofs.Common.{◌≡◌, refl, Bool, true, false, cond, List, [], ◌∷◌, ◌++◌, ℕ, zero, suc, ◌+◌, ◌/◌, ◌%◌, ◌≤◌, arith, ℤ, pos, negsuc, length, length-append, ltb, leb}
 use borrow.Author.Tests.{leb-true}
 use Rattle.decimal.specs.Decimal.{digits, decimal_of, int_text}
 use Rattle.tree.specs.Tree.{Tree, total}

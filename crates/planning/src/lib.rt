@@ -5,8 +5,8 @@ ghost use Rattle.std.specs.Prelude.{◌≡◌, length};
 ghost use Rattle.wire.specs.Puts.{Puts};
 ghost use Rattle.refusal.specs.Refusals.{number_of};
 ghost use Rattle.output.specs.Answer.{Answers};
-ghost use Rattle.tables.specs.Table.{table_tree, Tabled};
-ghost use Rattle.planning.specs.Output.{most_output, refusal_line, figures_line, tree_output, output_of};
+ghost use Rattle.tables.specs.Table.{table_tree};
+ghost use Rattle.planning.specs.Output.{refusal_line, figures_line, tree_output, output_of};
 
 use measures::Figures;
 use refusal::Refusal;
@@ -18,10 +18,11 @@ pub const MOST_TEXT: usize = 65536;
 // Room for every output: the text, and the longest line of figures.
 pub const MOST_OUTPUT: usize = 65610;
 
-pub fn output_buffer() -> [u8; MOST_OUTPUT]
-    ensures { most_output ≡ length result }
+// A buffer, of which no more is known than its length.
+pub fn buffer<const N: usize>() -> [u8; N]
+    ensures { length result ≡ N }
 {
-    [0; MOST_OUTPUT]
+    [0; N]
 }
 
 // ---- the lines
@@ -60,11 +61,10 @@ fn write_refusal(r: Refusal, out: &mut [u8]) -> Result<usize, Refusal>
 // ---- a tree in memory, and a job
 
 fn write_tree(t: &Table, out: &mut [u8]) -> Result<usize, Refusal>
-    requires { Tabled t.now }
     ensures { Answers (tree_output (table_tree t.now)) out.old result out.new }
 {
     let f = reading::read_figures(t);
-    let mut text = output_buffer();
+    let mut text = buffer::<MOST_OUTPUT>();
     let m = reading::put_text(t, &mut text, 0);
     if MOST_TEXT < m {
         return write_refusal(Refusal::NoRoom, out);

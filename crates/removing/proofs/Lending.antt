@@ -1,9 +1,5 @@
 -- The columns of a buffer are lent and come back one after the other: then each is what came back of it.
-use Prim.Native.Nat.{◌*◌, ◌≤◌}
-use mathlib.Core.Path.{◌≡◌, sym, subst, ◌∙◌}
-use mathlib.Core.List.{List}
-use native.Mathlib.Omega.{arith}
-use lib.ListN.{length}
+use Rattle.std.proofs.Common.{◌*◌, ◌≤◌, ◌≡◌, sym, subst, ◌∙◌, List, arith, length}
 use Rattle.tree.specs.Limits.{most_nodes}
 use Rattle.joining.specs.Buffers.{column}
 use Rattle.joining.proofs.Blocks.{with_column, Lent, lent}

@@ -1,18 +1,11 @@
 -- Is a node lone: what the columns say is what the nodes say. The idea: a chain has one member exactly where its first is followed by none.
-use Prim.Native.Nat.{ℕ, zero, suc, ◌≤◌, ◌<◌}
-use mathlib.Core.Path.{◌≡◌, refl, ap, sym, subst, ◌∙◌}
-use mathlib.Core.Logic.{◌≢◌}
-use mathlib.Core.Bool.{Bool, true, false, cond, not, ◌&&◌}
-use mathlib.Core.List.{List, [], ◌∷◌}
-use native.Mathlib.Omega.{arith}
-use lib.ListN.{length, get_or, length-reverse}
-use lib.Dec.{eqb}
+use Rattle.std.proofs.Common.{ℕ, zero, suc, ◌≤◌, ◌<◌, ◌≡◌, refl, ap, sym, subst, ◌∙◌, ◌≢◌, Bool, true, false, cond, not, ◌&&◌, List, [], ◌∷◌, arith, length, get_or, eqb, Option, None, Some, IsSome, is_some}
+use Rattle.std.proofs.Math.ListN.{length-reverse}
 use borrow.Author.Tests.{eq-eqb, ne_eqb}
 use Rattle.tree.specs.Limits.{no_node}
 use Rattle.tree.specs.Tree.{Node, node_at}
 use Rattle.tree.specs.Optimize.{is_steiner, lone}
 use Rattle.search.specs.Columns.{Chain}
-use Rattle.std.specs.Prelude.{Option, None, Some, IsSome, is_some}
 use Rattle.tree.specs.declared.NodeIndex.{NodeIndex}
 use Rattle.tree.specs.Memory.{type_number, type_of}
 use Rattle.joining.specs.Store.{Store, columns_of, name_from, index_from, link_in, SizedStore, Keeps}

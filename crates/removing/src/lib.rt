@@ -11,7 +11,8 @@ ghost use Rattle.removing.specs.Store.{PointsClosed, MarksClosed, AllLinksClosed
 use joining::{Arena, Counts};
 use tree::{NodeIndex, NodeType};
 
-// ---- one column closes up
+// ---- one column closes up. It is lent whole, with how many nodes it has: columns are longer, since there is no heap, and what lies past them is spoken
+// of too.
 
 // Of the first n elements those after the i-th move one place down.
 fn close_gap<T: Copy>(column: &mut [T], n: usize, i: usize)
@@ -23,7 +24,7 @@ fn close_gap<T: Copy>(column: &mut [T], n: usize, i: usize)
 
 // ---- links
 
-// The index that a link to v has once node i is gone.
+// The index that a link to v has once node i is gone. Links are lowered as their column holds them: NO_NODE stays.
 fn lowered(v: u16, i: u16) -> u16
     ensures { result ≡ closed_link i v }
 {
@@ -84,7 +85,7 @@ fn close_all_links(links: &mut [u16; joining::LINKS], n: usize, i: NodeIndex)
     close_links(&mut links[joining::NEXTS..joining::LINKS], n, i);
 }
 
-// The counts with one node less; its number is not given out again.
+// The counts with one node less; its number is not given out again. (A plain difference: the contract says that there is a node.)
 fn one_fewer(k: Counts) -> Counts
     requires { 0 < k.nodes }
     ensures { result ≡ one_fewer k }

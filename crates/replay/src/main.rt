@@ -3,7 +3,6 @@
 #![tactic(auto)]
 
 ghost use Rattle.std.specs.Prelude.{◌≡◌, ◌+◌, ◌<◌, ◌≤◌, length, IfSome};
-ghost use Rattle.global_router.specs.Stored.{Stored};
 
 use global_router::GlobalRoutingTree;
 use std::fmt;
@@ -37,23 +36,22 @@ fn wrote(buf: &[u8], n: usize, expected: &[u8]) -> bool {
 
 // The length of a part.
 fn length_at(case: &[u8], at: usize) -> usize {
+    // `as`: there is no From of u32 for usize.
     wire::u32_at(case, at) as usize
 }
 
 // ---- a job
 
 fn plans(job: &[u8], text: &[u8]) -> bool {
-    let mut out = planning::output_buffer();
+    let mut out = planning::buffer::<{ planning::MOST_OUTPUT }>();
     match planning::plan(job, &mut out) {
         Ok(n) => wrote(&out, n, text),
         Err(_) => false,
     }
 }
 
-fn gives_bytes(t: &GlobalRoutingTree, bytes: &[u8]) -> bool
-    requires { Stored t.now }
-{
-    let mut out = script::buffer::<{ script::MOST_BYTES }>();
+fn gives_bytes(t: &GlobalRoutingTree, bytes: &[u8]) -> bool {
+    let mut out = planning::buffer::<{ script::MOST_BYTES }>();
     match t.to_bytes(&mut out) {
         Ok(n) => wrote(&out, n, bytes),
         Err(_) => false,
@@ -98,12 +96,10 @@ struct Place {
 
 // Runs the record at a place, and follows it in the answers.
 fn step(tree: &mut GlobalRoutingTree, script: &[u8], answers: &[u8], from: Place) -> Option<Place>
-    requires stored { Stored tree.old }
-    requires next_in_bounds { (from.next < length script.now) × (from.at ≤ length answers.now) }
-    ensures stored { Stored tree.new }
-    ensures on { IfSome result (λ to. (from.next < to.next) × (to.at ≤ length answers.now)) }
+    requires { (from.next < length script.now) × (from.at ≤ length answers.now) }
+    ensures { IfSome result (λ to. (from.next < to.next) × (to.at ≤ length answers.now)) }
 {
-    let mut out = script::buffer::<{ script::MOST_ANSWER }>();
+    let mut out = planning::buffer::<{ script::MOST_ANSWER }>();
     let r = script::step(tree, script, from.next, &mut out);
     let at = after_line(answers, from.at, &out[..r.written])?;
     Some(Place { next: r.next, at })
@@ -112,7 +108,7 @@ fn step(tree: &mut GlobalRoutingTree, script: &[u8], answers: &[u8], from: Place
 // Where the answers end that a script gives after its start, if they stand there from a place on. (A `while`: a record tells where the
 // next one stands.)
 fn follow(mut tree: GlobalRoutingTree, script: &[u8], answers: &[u8], at: usize) -> Option<usize>
-    requires { Stored tree × (at ≤ length answers.now) }
+    requires { at ≤ length answers.now }
 {
     let mut place = Place {
         next: script::first_record(script),
@@ -126,7 +122,7 @@ fn follow(mut tree: GlobalRoutingTree, script: &[u8], answers: &[u8], at: usize)
 
 // Where the answers end that a script gives, if they stand there.
 fn answered(script: &[u8], answers: &[u8]) -> Option<usize> {
-    let mut out = script::buffer::<{ script::MOST_ANSWER }>();
+    let mut out = planning::buffer::<{ script::MOST_ANSWER }>();
     let start = script::start(script);
     let n = script::put_start(&mut out, &start);
     let at = after_line(answers, 0, &out[..n])?;
@@ -165,7 +161,7 @@ fn read_case<R: Read>(source: &mut R, buf: &mut [u8]) -> usize
 
 // Reads the next case and runs it.
 fn replay_case<R: Read>(source: &mut R, kind: Kind) -> bool {
-    let mut buf = script::buffer::<MOST_CASE>();
+    let mut buf = planning::buffer::<MOST_CASE>();
     let n = read_case(source, &mut buf);
     match kind {
         Kind::Job => job_case_agrees(&buf[..n]),

@@ -1,11 +1,6 @@
--- What an accepted job in memory lends to the router; and the plan of it is the tree of the job, in a table that keeps it.
-use Prim.Native.Nat.{ℕ, ◌*◌, ◌≤◌, ◌<◌}
-use mathlib.Core.Path.{◌≡◌, sym, ap, subst, ◌∙◌}
-use mathlib.Core.List.{List}
-use native.Mathlib.Omega.{arith}
-use lib.ListN.{length, take, length-map}
-use lib.Seq.{length-take-le, get_or-take}
-use lib.IntN.{ℤ, pos}
+-- What an accepted job in memory lends to the router; and the plan of it is the tree of the job.
+use Rattle.std.proofs.Common.{ℕ, ◌*◌, ◌≤◌, ◌<◌, ◌≡◌, sym, ap, subst, ◌∙◌, List, arith, length, take, length-take-le, get_or-take, ℤ, pos}
+use Rattle.std.proofs.Math.ListN.{length-map}
 use Rattle.geometry.specs.declared.Point.{Point}
 use Rattle.geometry.specs.Laws.{Within}
 use Rattle.tree.specs.Limits.{reach, most_terminals, most_keepouts}
@@ -18,11 +13,10 @@ use Rattle.job.proofs.Accepted.{near_in_memory}
 use Rattle.tree.specs.Memory.{point_at, points_of, keepouts_of}
 use Rattle.sorting.specs.Points.{Even}
 use Rattle.tables.specs.declared.Table.{Table}
-use Rattle.tables.specs.Table.{table_tree, Tabled}
+use Rattle.tables.specs.Table.{table_tree}
 use Rattle.route.specs.Plan.{Plannable, Planned}
 use Rattle.route.specs.Routing.{way_of, tree_for}
 use Rattle.route.specs.Jobs.{Sound}
-use Rattle.route.proofs.Plans.{plan_tabled}
 
 module _ (j : RoutingJob) (v : Sound j) where
   abbrev J : Job
@@ -112,9 +106,5 @@ module _ (j : RoutingJob) (v : Sound j) where
         source = v.accepted.source;
       }
 
-  module _ (t : Table) (p : Planned ks px py j.source j.mode t) where
-    pub planned_is : table_tree t ≡ tree_for J
-    planned_is = p.tree ∙ (λ i. route (way_of j.mode) j.source (((λ k. points_of (xs_are k) (ys_are k)) ∙ points-back ts) i) (ks_are i))
-
-    pub tabled : Tabled t
-    tabled = plan_tabled t p (omega (arith, part_xs, terminals-few))
+  pub planned_is : (t : Table) → Planned ks px py j.source j.mode t → table_tree t ≡ tree_for J
+  planned_is t p = p.tree ∙ (λ i. route (way_of j.mode) j.source (((λ k. points_of (xs_are k) (ys_are k)) ∙ points-back ts) i) (ks_are i))

@@ -1,8 +1,6 @@
 -- Demand 3 holds: order-freedom from the readings and from the trees, and the rest from what is proved of a routed tree (tree/proofs/Routing.antt).
-use mathlib.Core.Path.{◌≡◌, refl, ap, subst, ◌∙◌}
-use Prim.Native.Nat.{ℕ}
+use Rattle.std.proofs.Common.{◌≡◌, refl, ap, subst, ◌∙◌, ℕ, ℤ}
 use lib.Ieee.{Float}
-use lib.IntN.{ℤ}
 use Rattle.allowance.specs.Allowance.{allowed_of}
 use Rattle.tree.specs.Tree.{Tree}
 use Rattle.tree.specs.Route as T

@@ -1,10 +1,5 @@
 -- `plan` is the definition's route: the sorted columns are the sorted terminals, and each mode's choice is what the definition has for it.
-use Prim.Native.Nat.{ℕ, zero, suc, ◌+◌, ◌≤◌, ◌<◌}
-use mathlib.Core.Path.{◌≡◌, refl, sym, ap, subst, ◌∙◌}
-use mathlib.Core.List.{List, [], ◌∷◌, ◌++◌}
-use native.Mathlib.Omega.{arith}
-use lib.ListN.{length}
-use lib.IntN.{ℤ, pos}
+use Rattle.std.proofs.Common.{ℕ, zero, suc, ◌+◌, ◌≤◌, ◌<◌, ◌≡◌, refl, sym, ap, subst, ◌∙◌, List, [], ◌∷◌, ◌++◌, arith, length, ℤ, pos}
 use Rattle.geometry.specs.declared.Point.{Point}
 use Rattle.geometry.specs.Laws.{Within, dist-small}
 use Rattle.tree.specs.Limits.{reach, across, most_nodes, no_limit}
@@ -17,13 +12,15 @@ use Rattle.tree.specs.Memory.{point_at, points_of, keepouts_of}
 use Rattle.sorting.specs.Points.{Sorted}
 use Rattle.sorting.proofs.Segments.{seg, seg_append, seg_points}
 use Rattle.search.specs.declared.Query.{Query}
-use Rattle.joining.specs.Links.{LinkedBack}
-use Rattle.joining.specs.Store.{Store, SizedStore, Keeps, up_to}
+use Rattle.joining.specs.declared.Arena.{Arena}
+use Rattle.joining.specs.Store.{Store, columns_of, Sized, SizedStore, Keeps, up_to}
+use Rattle.joining.specs.Buffers.{stored}
 use Rattle.joining.proofs.Reading.{sized-columns, backed_of}
 use Rattle.tables.specs.declared.Table.{Table}
-use Rattle.tables.specs.Table.{table_columns, table_links, table_tree}
+use Rattle.tables.specs.Held.{TreeIn}
+use Rattle.tables.specs.Table.{table_tree}
 use Rattle.inserting.specs.Insert.{step_of}
-use Rattle.inserting.specs.Route.{tree_after, Routable}
+use Rattle.inserting.specs.Route.{tree_after, Routable, Holds, RoutedColumns}
 use Rattle.route.specs.declared.Choice.{Choice}
 use Rattle.route.specs.Routing.{way_of}
 use Rattle.route.specs.Plan.{choice_of, Plannable, TableRouted, Planned}
@@ -85,6 +82,37 @@ routable v c z =
       near = v.even.near;
     }
 
+-- ---- a well-formed tree stands in the arena with the choice's figures
+module _ (px py ks : List ℤ) (c : Choice) (w : ℕ) (v : Plannable px py c.query.point) (small : (c.query.limit ≤ no_limit) × (w ≤ across)) (a : Arena) (of : RoutedColumns c.way ks px py c.query a.counts (stored a)) where
+  abbrev T : Tree
+  T = tree_after c.way ks px py c.query w (length px)
+
+  h : Holds c.query w a.counts (stored a) T
+  h = of.holds w
+
+  few : length T.nodes ≤ most_nodes
+  few = omega (arith, h.counted.size, h.counted.steiners, h.stores.terminal, of.next, v.few)
+
+  z : Sized most_nodes (columns_of (stored a))
+  z = sized-columns of.sized
+
+  pub routed_held : TreeIn a c.query.limit c.query.allowed w
+  routed_held =
+      record {
+        formed = subst WellFormed (sym (of.tree w)) h.formed;
+        keeps = subst (λ (x : Tree). Keeps x.nodes (columns_of (stored a))) (sym (of.tree w)) h.stores.keeps;
+        sized = z;
+        back =
+            record {
+              size = of.sized.links.next;
+              agree = λ p l. backed_of T h.formed few most_nodes (columns_of (stored a)) z h.stores.keeps few (stored a).links.next h.stores.backs p (omega (arith, h.stores.size));
+            };
+        few = omega (arith, h.stores.size, few);
+        steiners = omega (arith, h.counted.steiners, h.stores.steiner, h.stores.terminal, of.next, v.few);
+        limit-small = small.0;
+        farthest-small = small.1;
+      }
+
 -- ---- the whole
 module _ (px py : List ℤ) (s : Point) (mode : Mode) (v : Plannable px py s) (px' py' : List ℤ) (sorted : Sorted px py s px' py')
     (w : ℕ) (is-w : w ≡ farthest s (points_of px py)) (c : Choice) (is_c : c ≡ choice_of mode s w) where
@@ -95,6 +123,11 @@ module _ (px py : List ℤ) (s : Point) (mode : Mode) (v : Plannable px py s) (p
         few = omega (arith, v.few, sorted.size);
         source = subst (Within reach) (sym (ap (λ (x : Choice). x.query.point) is_c ∙ from_source s w mode)) v.source;
       }
+
+  pub figures_small : (c.query.limit ≤ no_limit) × (w ≤ across)
+  figures_small =
+      let low : w ≤ across = omega (arith, is-w, farthest-bound v) in
+      (omega (arith, ap (λ (x : Choice). x.query.limit) is_c, limit-small s w mode low), low)
 
   module _ (ks : List ℤ) (t : Table) (of : TableRouted ks px' py' c w t) where
     table_is : table_tree t ≡ tree_after c.way ks px' py' c.query w (length px')
@@ -115,29 +148,11 @@ module _ (px py : List ℤ) (s : Point) (mode : Mode) (v : Plannable px py s) (p
         (λ i. inserts (step_of (is_c i).way ks) ((upto_seg (point_at px' py') (length px') ∙ seg_points px' py' sorted.even.both ∙ sorted.is) i) (rooted (is_c i).query.point (is_c i).query.allowed w (is_c i).query.limit))
         ∙ by_choice s w mode ks (points_of px py) is-w
 
-    low_w : w ≤ across
-    low_w = omega (arith, farthest-bound v)
-
-    back : LinkedBack most_nodes t.arena.counts.nodes (table_links t)
-    back =
-        let h = of.columns.holds w in
-        let few : length (tree_after c.way ks px' py' c.query w (length px')).nodes ≤ most_nodes = omega (arith, h.counted.size, h.counted.steiners, h.stores.terminal, of.columns.next, sorted.size, v.few) in
-        record {
-          size = of.columns.sized.links.next;
-          agree = λ p l. backed_of (tree_after c.way ks px' py' c.query w (length px')) h.formed few most_nodes (table_columns t) (sized-columns of.columns.sized) h.stores.keeps few (table_links t).next h.stores.backs p (omega (arith, h.stores.size));
-        }
-
     pub planned : Planned ks px py s mode t
     planned =
         let h = of.columns.holds w in
         record {
           tree = table_is ∙ tree_is;
-          formed = subst WellFormed (sym table_is) h.formed;
           counted = subst Counted (sym table_is) h.counted;
-          keeps = subst (λ (x : Tree). Keeps x.nodes (table_columns t)) (sym table_is) h.stores.keeps;
-          sized = sized-columns of.columns.sized;
-          back = back;
           next = of.columns.next ∙ ap (λ (n : ℕ). n + 1) sorted.size;
-          limit-small = omega (arith, of.limit, ap (λ (x : Choice). x.query.limit) is_c, limit-small s w mode low_w);
-          farthest-small = omega (arith, of.farthest, low_w);
         }

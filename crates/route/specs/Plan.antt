@@ -1,21 +1,19 @@
--- The tree of a source and terminals in any order, in buffers by value.
+-- The tree of a source and terminals in any order, in an arena.
 use Rattle.std.specs.Prelude.{ℕ, ◌+◌, ◌≤◌, ◌≡◌, List, length, ℤ, pos}
 use Rattle.geometry.specs.declared.Point.{Point}
 use Rattle.geometry.specs.Laws.{Within}
 use Rattle.allowance.specs.Allowance.{allowed_of}
-use Rattle.tree.specs.Limits.{reach, across, most_terminals, most_nodes, no_limit}
+use Rattle.tree.specs.Limits.{reach, most_terminals, no_limit}
 use Rattle.tree.specs.Route.{route}
-use Rattle.tree.specs.WellFormed.{WellFormed, Counted}
+use Rattle.tree.specs.WellFormed.{Counted}
 use Rattle.job.specs.declared.Mode.{Mode}
 use Rattle.job.specs.declared.Mode.TheVariants.{Simple, Steiners, Constraints}
 use Rattle.tree.specs.Memory.{points_of, keepouts_of}
 use Rattle.sorting.specs.Points.{Even}
 use Rattle.inserting.specs.declared.Way.TheVariants as W
 use Rattle.inserting.specs.Route.{RoutedColumns}
-use Rattle.joining.specs.Links.{LinkedBack}
-use Rattle.joining.specs.Store.{Sized, Keeps}
 use Rattle.tables.specs.declared.Table.{Table}
-use Rattle.tables.specs.Table.{table_columns, table_links, table_store, table_tree}
+use Rattle.tables.specs.Table.{table_store, table_tree}
 use Rattle.route.specs.declared.Choice.{Choice}
 use Rattle.route.specs.Routing.{way_of}
 
@@ -37,14 +35,8 @@ pub record TableRouted (ks px py : List ℤ) (c : Choice) (w : ℕ) (t : Table) 
   pub allowed : t.allowed ≡ c.query.allowed
   pub farthest : t.farthest ≡ w
 
--- the table is the tree that the definition gives, and keeps it well-formed
+-- the table is the tree that the definition gives
 pub record Planned (ks px py : List ℤ) (s : Point) (mode : Mode) (t : Table) : Type 0 where
   pub tree : table_tree t ≡ route (way_of mode) s (points_of px py) (keepouts_of ks)
-  pub formed : WellFormed (table_tree t)
   pub counted : Counted (table_tree t)
-  pub keeps : Keeps (table_tree t).nodes (table_columns t)
-  pub sized : Sized most_nodes (table_columns t)
-  pub back : LinkedBack most_nodes t.arena.counts.nodes (table_links t)
   pub next : t.arena.counts.terminal.0 ≡ length px + 1
-  pub limit-small : t.limit ≤ no_limit
-  pub farthest-small : t.farthest ≤ across

@@ -1,9 +1,9 @@
 // A source and terminals become a tree in memory: sorting, W, the allowance, and the three ways to route.
 #![tactic(auto)]
 
-ghost use Rattle.std.specs.Prelude.{◌≡◌, IfOk};
+ghost use Rattle.std.specs.Prelude.{◌≡◌, ◌≤◌};
 ghost use Rattle.geometry.specs.Laws.{Within};
-ghost use Rattle.tree.specs.Limits.{reach, most_nodes};
+ghost use Rattle.tree.specs.Limits.{across, reach, most_nodes, no_limit};
 ghost use Rattle.tree.specs.Memory.{points_of};
 ghost use Rattle.tree.specs.Route.{farthest};
 ghost use Rattle.sorting.specs.Points.{Even};
@@ -11,7 +11,7 @@ ghost use Rattle.joining.specs.Store.{SizedStore};
 ghost use Rattle.joining.specs.Buffers.{stored};
 ghost use Rattle.route.specs.Plan.{choice_of, Plannable, TableRouted, Planned};
 ghost use Rattle.job.specs.Reading.{unpacked};
-ghost use Rattle.tables.specs.Table.{table_tree, Tabled};
+ghost use Rattle.tables.specs.Table.{table_tree};
 ghost use Rattle.route.specs.Routing.{tree_for, route_of};
 ghost use Rattle.route.specs.Jobs.{Sound};
 ghost use Rattle.route.specs.Tables.{begun, routing_in};
@@ -45,7 +45,7 @@ fn farthest(px: &[i32], py: &[i32], s: Point) -> u32
     w
 }
 
-// The allowance where there is none to keep: a fresh tree's limit.
+// The allowance where there is none to keep: a fresh tree's limit. (`as`: a constant's value calls no function.)
 const ALL_ALLOWED: i32 = tree::NO_LIMIT as i32;
 
 fn choose(mode: Mode, s: Point, w: u32) -> Choice
@@ -97,7 +97,8 @@ fn empty_arena() -> Arena
 
 // The tree of terminals in the order given, by a choice; the table carries w.
 fn route_columns(px: &[i32], py: &[i32], ks: &[i32], c: Choice, w: u32) -> Table
-    requires { Plannable px.now py.now c.query.point }
+    requires plannable { Plannable px.now py.now c.query.point }
+    requires small { (c.query.limit ≤ no_limit) × (w ≤ across) }
     ensures { TableRouted ks.now px.now py.now c w result }
 {
     let query = c.query;
@@ -126,8 +127,7 @@ pub fn plan(px: &mut [i32], py: &mut [i32], ks: &[i32], s: Point, mode: Mode) ->
 
 pub fn source_alone(s: Point) -> Table
     requires { Within reach s }
-    ensures is { table_tree result ≡ begun s }
-    ensures tabled { Tabled result }
+    ensures { table_tree result ≡ begun s }
 {
     plan(&mut [], &mut [], &[], s, Mode::Simple)
 }
@@ -135,8 +135,7 @@ pub fn source_alone(s: Point) -> Table
 // The tree of a job that was accepted.
 fn planned(mut j: RoutingJob) -> Table
     requires { Sound j }
-    ensures is { table_tree result ≡ tree_for (unpacked j) }
-    ensures tabled { Tabled result }
+    ensures { table_tree result ≡ tree_for (unpacked j) }
 {
     let t = j.terminal_count;
     let k = tree::KEEPOUT_BOUNDS * j.keepout_count;
@@ -151,8 +150,7 @@ fn planned(mut j: RoutingJob) -> Table
 
 // What a job's bytes get: the refusal, or the job's tree.
 pub fn route_table(bytes: &[u8]) -> Result<Table, Refusal>
-    ensures is { routing_in result ≡ route_of bytes.now }
-    ensures tabled { IfOk result Tabled }
+    ensures { routing_in result ≡ route_of bytes.now }
 {
     let job = job::read_job(bytes)?;
     Ok(planned(job))

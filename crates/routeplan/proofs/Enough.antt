@@ -1,9 +1,5 @@
 -- What is read of the input is enough: the output is that of the whole.
-use mathlib.Core.Path.{◌≡◌}
-use mathlib.Core.List.{List}
-use Prim.Native.Nat.{ℕ}
-use native.Mathlib.Omega.{arith}
-use lib.ListN.{take}
+use Rattle.std.proofs.Common.{◌≡◌, List, ℕ, arith, take}
 use Rattle.planning.specs.Output.{output_of}
 use Rattle.planning.proofs.Cut.{output_cut}
 use Rattle.routeplan.specs.Input.{most_read}

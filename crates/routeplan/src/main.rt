@@ -8,15 +8,16 @@ ghost use Rattle.routeplan.specs.Input.{most_read};
 // (`enough` in proofs/Enough.antt).
 const MOST_READ: usize = 2048;
 
+// Its length is that of which `enough` speaks.
 fn input_buffer() -> [u8; MOST_READ]
     ensures { most_read ≡ length result }
 {
-    [0; MOST_READ]
+    planning::buffer()
 }
 
 // The buffer has room for every output (`output_short` in planning/proofs/Room.antt), so that nothing is refused here.
 fn write_plan(rt: &HostRuntime, job: &[u8]) -> std::io::Result<()> {
-    let mut out = planning::output_buffer();
+    let mut out = planning::buffer::<{ planning::MOST_OUTPUT }>();
     let answer = planning::plan(job, &mut out);
     if let Ok(n) = answer {
         return rt.write_all(&out[..n]);

@@ -1,5 +1,5 @@
 -- The samples agree with the definitions: both sides are computed.
-use mathlib.Core.Path.{refl}
+use Rattle.std.proofs.Common.{refl}
 use lib.Ieee.{of_bits, mul, of_int, to_signed}
 use Rattle.geometry.specs.Geometry.{gap, dist, min_z, max_z, clip, inside, contains, covers, blocks, same}
 use Rattle.allowance.specs.Allowance.{product, half_up, rounded, allowed_of}

@@ -3,13 +3,11 @@
 // A field past a script's end reads as 0: no bytes are refused here.
 #![tactic(auto)]
 
-ghost use Rattle.std.specs.Prelude.{◌≡◌, ◌+◌, ◌<◌, ◌≤◌, length, IfOk};
+ghost use Rattle.std.specs.Prelude.{◌<◌, ◌≤◌, length};
 ghost use Rattle.rectangles.specs.Rectangles.{room};
-ghost use Rattle.global_router.specs.Stored.{Stored};
 ghost use Rattle.planning.specs.Output.{most_text};
-ghost use Rattle.script.specs.Runs.{most_answer};
 
-use geometry::{Interval, Point, Rectangle};
+use geometry::{Point, Rectangle};
 use global_router::GlobalRoutingTree;
 use measures::Figures;
 use rectangles::Rectangles;
@@ -30,20 +28,10 @@ const MOST_LISTED: usize = 250;
 // Room for the longest answer: a text with its line.
 pub const MOST_ANSWER: usize = 65552;
 
-// A buffer, of which no more is known than its length.
-pub fn buffer<const N: usize>() -> [u8; N]
-    ensures { length result ≡ N }
-{
-    [0; N]
-}
-
 // ---- what a record holds
 
 fn point_in(record: &[u8]) -> Point {
-    Point {
-        xcoord: wire::i32_at(record, 12),
-        ycoord: wire::i32_at(record, 16),
-    }
+    job::point_from(record, 12)
 }
 
 fn type_at(record: &[u8], at: usize) -> NodeType {
@@ -70,6 +58,7 @@ fn parent_in(record: &[u8]) -> Option<NodeName> {
 fn room_in(record: &[u8], n: usize) -> usize
     ensures { result ≤ n }
 {
+    // `as`, here and below: there is no From of u32 for usize.
     let room = wire::u32_at(record, 24) as usize;
     room.min(n)
 }
@@ -80,23 +69,10 @@ fn keepout_count(record: &[u8]) -> usize
     usize::from(wire::byte_at(record, 3))
 }
 
-fn interval_at(record: &[u8], at: usize) -> Interval
-    requires { at < most_answer }
-{
-    Interval {
-        lb: wire::i32_at(record, at),
-        ub: wire::i32_at(record, at + 4),
-    }
-}
-
 fn keepout_at(record: &[u8], i: usize) -> Rectangle
     requires { i < room }
 {
-    let at = RECORD_SIZE + KEEPOUT_SIZE * i;
-    Rectangle {
-        xcoord: interval_at(record, at),
-        ycoord: interval_at(record, at + 8),
-    }
+    job::rectangle_from(record, RECORD_SIZE + KEEPOUT_SIZE * i)
 }
 
 // As many as there is room for: of more, the call refuses these as too many.
@@ -114,10 +90,7 @@ fn keepouts_in(record: &[u8]) -> Rectangles {
 // ---- edits
 
 // Calls 1 to 5.
-fn edit(t: &mut GlobalRoutingTree, record: &[u8], call: u8) -> Result<NodeName, Refusal>
-    requires { Stored t.old }
-    ensures { Stored t.new }
-{
+fn edit(t: &mut GlobalRoutingTree, record: &[u8], call: u8) -> Result<NodeName, Refusal> {
     let point = point_in(record);
     match call {
         1 => t.insert_steiner_node(point, parent_in(record)),
@@ -144,17 +117,13 @@ fn put_word(out: &mut [u8], word: &[u8], n: u32) -> usize {
 }
 
 // How many nodes a tree has: its bytes begin with that.
-fn count_of(t: &GlobalRoutingTree) -> u8
-    requires { Stored t.now }
-{
-    let mut bytes = buffer::<MOST_BYTES>();
+fn count_of(t: &GlobalRoutingTree) -> u8 {
+    let mut bytes = planning::buffer::<MOST_BYTES>();
     let _ = t.to_bytes(&mut bytes);
     wire::byte_at(&bytes, 0)
 }
 
-fn put_count(out: &mut [u8], t: &GlobalRoutingTree) -> usize
-    requires { Stored t.now }
-{
+fn put_count(out: &mut [u8], t: &GlobalRoutingTree) -> usize {
     put_word(out, b"ok ", u32::from(count_of(t)))
 }
 
@@ -184,11 +153,13 @@ fn put_tree_bytes(out: &mut [u8], bytes: &[u8]) -> usize {
 fn put_text(out: &mut [u8], text: &[u8]) -> usize
     requires { length text.now ≤ most_text }
 {
+    // `as`: the text has at most MOST_TEXT bytes, and `try_from` would test that again.
     let p = put_word(out, b"text ", text.len() as u32);
     wire::put_all(out, p, text)
 }
 
-// ---- questions: each has a buffer that is long enough, of which the call is lent what the record says
+// ---- questions: each has a buffer that is long enough, of which the call is lent what the record says. A tree, a record and an output are what every
+// question takes, and one `match` hands them on: a struct of them would hold a `&mut`.
 
 // Calls 7 to 9.
 fn ask_list(
@@ -196,9 +167,7 @@ fn ask_list(
     record: &[u8],
     call: u8,
     out: &mut [u8],
-) -> Result<usize, Refusal>
-    requires { Stored t.now }
-{
+) -> Result<usize, Refusal> {
     let mut list = [0u16; MOST_LISTED];
     let lent = &mut list[..room_in(record, MOST_LISTED)];
     let (word, answer) = match call {
@@ -210,36 +179,28 @@ fn ask_list(
     Ok(put_list(out, word, &list[..n.min(MOST_LISTED)]))
 }
 
-fn ask_index(t: &GlobalRoutingTree, record: &[u8], out: &mut [u8]) -> Result<usize, Refusal>
-    requires { Stored t.now }
-{
+fn ask_index(t: &GlobalRoutingTree, record: &[u8], out: &mut [u8]) -> Result<usize, Refusal> {
     let Some(i) = t.find_node(name_a(record)) else {
         return Err(Refusal::NoSuchNode);
     };
     Ok(put_word(out, b"index ", u32::from(i.0)))
 }
 
-fn ask_text(t: &GlobalRoutingTree, record: &[u8], out: &mut [u8]) -> Result<usize, Refusal>
-    requires { Stored t.now }
-{
-    let mut text = buffer::<{ planning::MOST_TEXT }>();
+fn ask_text(t: &GlobalRoutingTree, record: &[u8], out: &mut [u8]) -> Result<usize, Refusal> {
+    let mut text = planning::buffer::<{ planning::MOST_TEXT }>();
     let room = room_in(record, planning::MOST_TEXT);
     let n = t.get_tree_structure(&mut text[..room])?;
     Ok(put_text(out, &text[..n.min(planning::MOST_TEXT)]))
 }
 
-fn ask_bytes(t: &GlobalRoutingTree, record: &[u8], out: &mut [u8]) -> Result<usize, Refusal>
-    requires { Stored t.now }
-{
-    let mut bytes = buffer::<MOST_BYTES>();
+fn ask_bytes(t: &GlobalRoutingTree, record: &[u8], out: &mut [u8]) -> Result<usize, Refusal> {
+    let mut bytes = planning::buffer::<MOST_BYTES>();
     let room = room_in(record, MOST_BYTES);
     let n = t.to_bytes(&mut bytes[..room])?;
     Ok(put_tree_bytes(out, &bytes[..n.min(MOST_BYTES)]))
 }
 
-fn ask_figures(t: &GlobalRoutingTree, out: &mut [u8]) -> usize
-    requires { Stored t.now }
-{
+fn ask_figures(t: &GlobalRoutingTree, out: &mut [u8]) -> usize {
     let f = Figures {
         allowed: t.allowed(),
         farthest: t.farthest(),
@@ -250,9 +211,7 @@ fn ask_figures(t: &GlobalRoutingTree, out: &mut [u8]) -> usize
 }
 
 // Calls 7 to 13.
-fn ask(t: &GlobalRoutingTree, record: &[u8], call: u8, out: &mut [u8]) -> Result<usize, Refusal>
-    requires { Stored t.now }
-{
+fn ask(t: &GlobalRoutingTree, record: &[u8], call: u8, out: &mut [u8]) -> Result<usize, Refusal> {
     match call {
         7..=9 => ask_list(t, record, call, out),
         10 => ask_index(t, record, out),
@@ -266,10 +225,7 @@ fn ask(t: &GlobalRoutingTree, record: &[u8], call: u8, out: &mut [u8]) -> Result
 // ---- a record
 
 // Runs a record, and puts its line. (Calls by their numbers, here and above: an enum of them would list the same numbers once more, and be matched alike.)
-fn run(t: &mut GlobalRoutingTree, record: &[u8], out: &mut [u8]) -> Result<usize, Refusal>
-    requires { Stored t.old }
-    ensures { Stored t.new }
-{
+fn run(t: &mut GlobalRoutingTree, record: &[u8], out: &mut [u8]) -> Result<usize, Refusal> {
     let call = wire::byte_at(record, 0);
     match call {
         1..=5 => {
@@ -295,7 +251,7 @@ fn written(answer: Result<usize, Refusal>, out: &mut [u8]) -> usize
     n.min(out.len())
 }
 
-// The place n bytes on, or the script's end where that is nearer.
+// The place n bytes on, or the script's end where that is nearer. (No sum that could pass the largest usize: `at + n` might.)
 pub fn after(script: &[u8], at: usize, n: usize) -> usize
     requires { at ≤ length script.now }
     ensures bounded { (at ≤ result) × (result ≤ length script.now) }
@@ -313,9 +269,7 @@ pub struct Progress {
 
 // Runs the record that stands at a place.
 pub fn step(t: &mut GlobalRoutingTree, script: &[u8], at: usize, out: &mut [u8]) -> Progress
-    requires stored { Stored t.old }
-    requires at_in_bounds { at < length script.now }
-    ensures stored { Stored t.new }
+    requires { at < length script.now }
     ensures fits { result.written ≤ length out.new }
     ensures on { at < result.next }
 {
@@ -338,27 +292,17 @@ pub fn first_record(script: &[u8]) -> usize
     after(script, 0, HEADER_SIZE + job)
 }
 
-fn begun(script: &[u8]) -> Result<GlobalRoutingTree, Refusal>
-    ensures { IfOk result Stored }
-{
-    let source = Point {
-        xcoord: wire::i32_at(script, 8),
-        ycoord: wire::i32_at(script, 12),
-    };
-    GlobalRoutingTree::new(source)
+fn begun(script: &[u8]) -> Result<GlobalRoutingTree, Refusal> {
+    GlobalRoutingTree::new(job::point_from(script, 8))
 }
 
-fn routed(script: &[u8]) -> Result<GlobalRoutingTree, Refusal>
-    ensures { IfOk result Stored }
-{
+fn routed(script: &[u8]) -> Result<GlobalRoutingTree, Refusal> {
     let end = first_record(script);
     global_router::route(&script[HEADER_SIZE.min(end)..end])
 }
 
 // The tree that a script starts with; where it is refused, the script has no further answers.
-pub fn start(script: &[u8]) -> Result<GlobalRoutingTree, Refusal>
-    ensures { IfOk result Stored }
-{
+pub fn start(script: &[u8]) -> Result<GlobalRoutingTree, Refusal> {
     if wire::byte_at(script, 0) == 0 {
         return begun(script);
     }
@@ -367,7 +311,6 @@ pub fn start(script: &[u8]) -> Result<GlobalRoutingTree, Refusal>
 
 // Answers the start, and returns how much the answer has.
 pub fn put_start(out: &mut [u8], start: &Result<GlobalRoutingTree, Refusal>) -> usize
-    requires { IfOk start.now Stored }
     ensures { result ≤ length out.new }
 {
     let answer = match start {

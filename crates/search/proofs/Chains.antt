@@ -1,16 +1,7 @@
 -- Laws of chains of links, and of a stack in an array.
-use Prim.Native.Nat.{ℕ, zero, suc, ◌+◌, ◌≤◌, ◌<◌}
-use mathlib.Core.Path.{◌≡◌, refl, ap, sym, ◌∙◌, subst}
-use mathlib.Core.Bool.{Bool, true, false, cond}
-use mathlib.Core.List.{List, [], ◌∷◌}
-use native.Mathlib.Omega.{arith}
-use native.Mathlib.Numerals.{add-one}
-use lib.ListN.{length, get_or, set}
-use lib.Dec.{eqb}
-use lib.Seq.{get_or-set_same, get_or-set_other}
+use Rattle.std.proofs.Common.{ℕ, zero, suc, ◌+◌, ◌≤◌, ◌<◌, ◌≡◌, refl, ap, sym, ◌∙◌, subst, Bool, true, false, cond, List, [], ◌∷◌, arith, add-one, length, get_or, set, eqb, get_or-set_same, get_or-set_other, Option, None, Some}
 use borrow.Author.Tests.{eq-eqb, ne_eqb, eqb-true}
 use Rattle.tree.specs.Limits.{no_node}
-use Rattle.std.specs.Prelude.{Option, None, Some}
 use Rattle.tree.specs.declared.NodeIndex.{NodeIndex}
 use Rattle.search.specs.Walk.{node_index, index_from, link_in}
 use Rattle.search.specs.Columns.{chain, Chain, Chained, stack_of, chain_of}

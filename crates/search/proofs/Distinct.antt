@@ -1,13 +1,7 @@
 -- Lists without repeats: a distinct list of numbers below n has at most n of them.
-use Prim.Native.Nat.{ℕ, zero, suc, ◌≤◌, ◌<◌}
-use mathlib.Core.Path.{◌≡◌, refl, ap, sym, ◌∙◌, subst}
-use mathlib.Core.Bool.{Bool, true, false, cond}
-use mathlib.Core.List.{List, [], ◌∷◌, ◌++◌, reverse, reverse-cons}
-use mathlib.Core.Logic.{inl, inr, ⊎_elim}
-use native.Mathlib.Omega.{arith}
-use native.Mathlib.Decide.{dec_le}
-use lib.ListN.{length}
-use lib.Dec.{eqb}
+use Rattle.std.proofs.Common.{ℕ, zero, suc, ◌≤◌, ◌<◌, ◌≡◌, refl, ap, sym, ◌∙◌, subst, Bool, true, false, cond, List, [], ◌∷◌, ◌++◌, reverse, inl, inr, ⊎_elim, arith, length, eqb}
+use Rattle.std.proofs.Math.Decide.{dec_le}
+use mathlib.Core.List.{reverse-cons}
 use borrow.Author.Tests.{ne_eqb, eqb-true, eqb-false}
 use Rattle.tree.specs.Tree.{without}
 use Rattle.search.specs.Columns.{Has, Away, Distinct}

@@ -1,10 +1,5 @@
 -- The tests of one branch, and what is found with it, are those of the definitions: L ≤ allowed on signed numbers, the take.
-use Prim.Native.Nat.{ℕ, ◌+◌, ◌≤◌}
-use mathlib.Core.Path.{◌≡◌, refl, ap, sym, ◌∙◌, subst}
-use mathlib.Core.Bool.{Bool, true, false, ◌||◌}
-use native.Mathlib.Omega.{arith}
-use lib.Dec.{leb, T}
-use lib.IntN.{ℤ, pos, negsuc, nat_abs}
+use Rattle.std.proofs.Common.{ℕ, ◌+◌, ◌≤◌, ◌≡◌, refl, ap, sym, ◌∙◌, subst, Bool, true, false, ◌||◌, arith, leb, T, ℤ, pos, negsuc, nat_abs}
 use lib.Signed.{le_z, lt_z}
 use borrow.Author.Tests.{leb-true, le-ltb}
 use mir.Syntax.{w32}

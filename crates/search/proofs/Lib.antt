@@ -10,3 +10,4 @@ pub mod Distinct
 pub mod Forest
 pub mod TreeWalk
 pub mod Defined
+pub mod Merely

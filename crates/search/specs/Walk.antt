@@ -1,8 +1,6 @@
 -- The walk over the nodes: what it reads of a node, its stack, and when it is safe.
-use Prim.Native.Nat.{ℕ, zero, suc, ◌+◌, ◌≤◌, ◌<◌, max}
-use Rattle.std.specs.Prelude.{◌≡◌, false, cond, get_or, eqb, Option, None, Some, ℤ}
-use mathlib.Core.List.{List, [], ◌∷◌}
 use Rattle.std.proofs.Math.ListN.{length}
+use Rattle.std.specs.Prelude.{ℕ, zero, suc, ◌+◌, ◌≤◌, ◌<◌, max, ◌≡◌, false, cond, get_or, eqb, Option, None, Some, ℤ, List, [], ◌∷◌}
 use Rattle.geometry.specs.declared.Rectangle.{Rectangle}
 use Rattle.tree.specs.declared.NodeIndex.{NodeIndex}
 use Rattle.tree.specs.Limits.{no_node}

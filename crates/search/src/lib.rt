@@ -85,6 +85,7 @@ pub struct Found {
 pub struct Judged {
     pub near: Point,
     pub found: Best,
+    // A flag, since `found` is there either way.
     pub taken: bool,
 }
 
@@ -92,12 +93,13 @@ pub struct Judged {
 #[derive(Clone, Copy)]
 pub struct Examined {
     pub found: Best,
+    // A flag, since `found` is there either way.
     pub pushed: bool,
 }
 
-// ---- points within the limit
+// ---- points within the limit: contracts ask that, and no type says it, since points come from columns of i32
 
-// Within the coordinate limit a distance fits 32 bits.
+// Within the coordinate limit a distance fits 32 bits. (`as`: `try_from` would test again what the contract says.)
 pub fn distance(p: Point, q: Point) -> u32
     requires { Within reach p × Within reach q }
     ensures { result ≡ dist p q }
@@ -112,14 +114,14 @@ pub fn nearest_on(p: Point, c: Point, q: Point) -> Point
     p.hull_with(c).nearest_to(q)
 }
 
-// ---- one branch
+// ---- one branch: its ends, what is found so far and the query are handed on as they are; what the walk lends on is one struct, `Search`
 
 impl Query {
     // L ≤ allowed
     fn allows(self, l: u32) -> bool
         ensures { result ≡ le_z (pos l) self.allowed }
     {
-        self.allowed >= 0 && l <= self.allowed as u32
+        i64::from(l) <= i64::from(self.allowed)
     }
 }
 
@@ -220,7 +222,7 @@ fn stops(k: Rectangle, n: Point, a: Rectangle, b: Rectangle, c: Rectangle) -> bo
 fn is_beside(k: Rectangle, n: Point) -> bool
     ensures { result ≡ beside_of k n }
 {
-    k.xcoord.contains_value(n.xcoord) || k.ycoord.contains_value(n.ycoord)
+    k.xcoord.contains_value(n.xcoord) | k.ycoord.contains_value(n.ycoord)
 }
 
 // One keepout against the branch from p to c, whose nearest point to q is n.
@@ -260,7 +262,7 @@ fn blocked(ks: &[i32], n: Point, q: Point, p: Point, c: Point) -> bool
     false
 }
 
-// ---- columns
+// ---- columns: `ReachIn` is of an index and the columns together, so no struct has it
 
 // What the search reads of a node.
 pub fn view_at(nodes: NodeColumns, c: NodeIndex) -> NodeView
@@ -275,8 +277,8 @@ pub fn view_at(nodes: NodeColumns, c: NodeIndex) -> NodeView
     }
 }
 
-// The node that a column's number names.
-fn index_of(n: u16) -> Option<NodeIndex>
+// The node that a column's number names. A column of u16 holds NO_NODE for none: memory is fixed, and an Option of an index takes twice its room.
+pub fn index_of(n: u16) -> Option<NodeIndex>
     ensures { result ≡ index_from n }
 {
     if n == tree::NO_NODE {

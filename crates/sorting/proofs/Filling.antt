@@ -1,12 +1,6 @@
 -- Keys and points filled in from the front: one more with each store.
-use Prim.Native.Nat.{ℕ, ◌+◌, ◌<◌}
-use mathlib.Core.Path.{◌≡◌, sym, ap, ◌∙◌}
-use mathlib.Core.List.{List}
-use native.Mathlib.Omega.{arith}
-use native.Mathlib.Decide.{ℕ_discrete}
-use lib.ListN.{length, get_or, set, length-set}
-use lib.Seq.{get_or-set_same, get_or-set_other}
-use lib.IntN.{ℤ}
+use Rattle.std.proofs.Common.{ℕ, ◌+◌, ◌<◌, ◌≡◌, sym, ap, ◌∙◌, List, arith, length, get_or, set, length-set, get_or-set_same, get_or-set_other, ℤ}
+use Rattle.std.proofs.Math.Decide.{ℕ_discrete}
 use Rattle.geometry.specs.declared.Point.{Point}
 use Rattle.tree.specs.Memory.{point_at}
 use Rattle.sorting.specs.Keys.{key_of, point_of, Keyed, Read}

@@ -1,11 +1,5 @@
 -- One store of a point in two columns: the point stands there, all others stay, and so do the lengths.
-use Prim.Native.Nat.{ℕ, ◌<◌}
-use mathlib.Core.Path.{◌≡◌, ap, ◌∙◌}
-use mathlib.Core.Logic.{◌≢◌}
-use mathlib.Core.List.{List}
-use lib.ListN.{length, get_or, set, length-set}
-use lib.Seq.{get_or-set_same, get_or-set_other}
-use lib.IntN.{ℤ, pos}
+use Rattle.std.proofs.Common.{ℕ, ◌<◌, ◌≡◌, ap, ◌∙◌, ◌≢◌, List, length, get_or, set, length-set, get_or-set_same, get_or-set_other, ℤ, pos}
 use Rattle.geometry.specs.declared.Point.{Point}
 use Rattle.tree.specs.Memory.{point_at}
 

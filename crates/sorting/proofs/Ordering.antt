@@ -1,9 +1,7 @@
 -- Sorted keys are those of the sorted points: as keys order as their points do, the points read back are in order, and a list in order of the same
 -- points is the definition's sorted list.
-use Rattle.std.proofs.Common.{ℕ, suc, ◌≤◌, ◌<◌, ◌≡◌, List, [], ◌∷◌, length, get_or, map, refl, sym, ap, subst, ◌∙◌, arith, add-one, All}
-use mathlib.Core.Bool.{Bool, true, false, cond, false≢true}
-use lib.IntN.{ℤ}
-use lib.Dec.{ltb, eqb}
+use Rattle.std.proofs.Common.{ℕ, suc, ◌≤◌, ◌<◌, ◌≡◌, List, [], ◌∷◌, length, get_or, map, refl, sym, ap, subst, ◌∙◌, arith, add-one, All, Bool, true, false, cond, ℤ, ltb, eqb}
+use Rattle.std.proofs.Math.Bool.{false≢true}
 use borrow.Author.Tests.{ltb-false, le-ltb, not-false}
 use Rattle.std.specs.List.{sum_by}
 use Rattle.std.specs.List.Sorted.{IsPermutation, IsSorted}

@@ -1,15 +1,9 @@
 -- The library sorts the keys, and the code no longer guesses an order. The laws stand.
 -- Keys that went to places which were free: the places hold the keys so far, each as often, and are free for the rest. So once all keys went, the
 -- places hold the same keys; and sorting depends only on how often each key stands there. Nothing is asked of which place a key goes to.
-use Prim.Native.Nat.{ℕ, zero, suc, ◌+◌, ◌-◌, ◌≤◌, ◌<◌}
-use mathlib.Core.Path.{◌≡◌, refl, sym, ap, ◌∙◌}
-use mathlib.Core.Bool.{Bool, true, false, not, cond}
-use mathlib.Core.List.{List, [], ◌∷◌}
-use native.Mathlib.Omega.{arith}
-use native.Mathlib.Numerals.{add-one}
-use lib.ListN.{length, get_or, set, take, replicate, length-set, length-replicate, get_or-replicate}
-use lib.Seq.{ext_get_or, take-suc, take-length}
-use lib.Dec.{ltb, eqb}
+use Rattle.std.proofs.Common.{ℕ, zero, suc, ◌+◌, ◌-◌, ◌≤◌, ◌<◌, ◌≡◌, refl, sym, ap, ◌∙◌, Bool, true, false, not, cond, List, [], ◌∷◌, arith, add-one, length, get_or, set, take, replicate, length-set, ext_get_or, take-suc, ltb, eqb}
+use Rattle.std.proofs.Math.ListN.{length-replicate, get_or-replicate}
+use Rattle.std.proofs.Math.Seq.{take-length}
 use borrow.Author.Tests.{ltb-true, ltb-false, le-ltb, eqb-true, eq-eqb, not-true, not-false}
 use Rattle.tree.specs.Tree.{one}
 use Rattle.tree.specs.Shape.{count}

@@ -1,10 +1,5 @@
 -- Points by index, from any index on: the form in which a loop over two columns has them. From 0 on they are the columns' points.
-use Prim.Native.Nat.{ℕ, zero, suc, ◌+◌}
-use mathlib.Core.Path.{◌≡◌, refl, ap, ◌∙◌}
-use mathlib.Core.List.{List, [], ◌∷◌, ◌++◌}
-use native.Mathlib.Omega.{arith}
-use lib.ListN.{length}
-use lib.IntN.{ℤ}
+use Rattle.std.proofs.Common.{ℕ, zero, suc, ◌+◌, ◌≡◌, refl, ap, ◌∙◌, List, [], ◌∷◌, ◌++◌, arith, length, ℤ}
 use Rattle.geometry.specs.declared.Point.{Point}
 use Rattle.tree.specs.Memory.{point_at, points_of}
 

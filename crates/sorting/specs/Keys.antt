@@ -1,6 +1,6 @@
 -- A point's key: one number for its distance from the source, its x and its y, which orders as the three do in turn. And lists of keys.
-use Rattle.std.specs.Prelude.{ℕ, ◌+◌, ◌*◌, ◌/◌, ◌%◌, ◌<◌, ◌≡◌, cond, length, get_or, ltb, ℤ, pos, negsuc, ◌-ℤ◌}
-use mathlib.Core.List.{List, [], ◌∷◌, foldr}
+use Rattle.std.specs.Prelude.{ℕ, ◌+◌, ◌*◌, ◌/◌, ◌%◌, ◌<◌, ◌≡◌, cond, length, get_or, ltb, ℤ, pos, negsuc, ◌-ℤ◌, List, [], ◌∷◌}
+use mathlib.Core.List.{foldr}
 use Rattle.tree.specs.Limits.{reach}
 use Rattle.tree.specs.Shape.{count}
 use Rattle.geometry.specs.declared.Point.{Point}

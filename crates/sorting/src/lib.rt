@@ -36,6 +36,7 @@ fn key(s: Point, p: Point) -> u64
     (d * PART + x) * PART + y
 }
 
+// `as`: 21 bits fit, and `try_from` would test that again for each coordinate.
 fn coordinate(n: u64) -> i32
     requires { n < part }
     ensures { result ≡ pos n -ℤ pos reach }
@@ -52,7 +53,7 @@ fn point_of(k: u64) -> Point
     Point { xcoord, ycoord }
 }
 
-// ---- columns to keys, and back
+// ---- columns to keys, and back. The two columns are a job's own, lent as `&mut`: a struct that said that they are even would hold both.
 
 fn put_keys(px: &[i32], py: &[i32], s: Point, keys: &mut [u64])
     requires even { Even px.now py.now × Within reach s }

@@ -9,12 +9,11 @@ use Rattle.tree.specs.Edits.{Next}
 use Rattle.tree.specs.declared.SteinerNumber.{SteinerNumber}
 use Rattle.joining.specs.declared.Counts.{Counts}
 use Rattle.tables.specs.declared.Table.{Table}
-use Rattle.tables.specs.Table.{table_tree, Tabled}
+use Rattle.tables.specs.Table.{table_tree}
 
 -- the tree in t has become the tree after the step
 pub record Stepped (step : Tree → Tree) (t r : Table) : Type 0 where
   pub is : table_tree r ≡ step (table_tree t)
-  pub tabled : Tabled r
 
 -- the Steiner number that a name gives out, if any
 abbrev pub steiner_in : Name → Option SteinerNumber
@@ -24,7 +23,6 @@ steiner_in (terminal k) = None
 
 -- a node with the name, which is given next, and at the point may be added
 pub record Addable (t : Table) (n : Name) (q : Point) : Type 0 where
-  pub tabled : Tabled t
   pub next : Next t.arena.counts.steiner.0 t.arena.counts.terminal.0 n
   pub within : Within reach q
 

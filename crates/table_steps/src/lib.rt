@@ -1,4 +1,5 @@
-// The steps of an edit, on a table: its arena is lent to the crates that change a tree.
+// The steps of an edit, on a table: its arena is lent to the crates that change a tree. Room, a name and a point are a step's own and not the table's,
+// so contracts ask them.
 #![tactic(auto)]
 
 ghost use Rattle.std.specs.Prelude.{◌≡◌, ◌<◌};
@@ -11,7 +12,7 @@ ghost use Rattle.tree.specs.Optimize.{optimize};
 ghost use Rattle.tree.specs.Memory.{name_in};
 ghost use Rattle.tree.specs.WellFormed.{Fits, new_nodes};
 ghost use Rattle.search.specs.Find.{join_of};
-ghost use Rattle.tables.specs.Table.{table_tree, Tabled};
+ghost use Rattle.tables.specs.Table.{table_tree};
 ghost use Rattle.table_steps.specs.Steps.{Stepped, Addable, Room, steiner_in, new_number};
 
 use geometry::Point;
@@ -39,7 +40,7 @@ pub fn with_node_between(t: &mut Table, name: NodeName, q: Point, p: NodeIndex, 
 
 // A new terminal where it joins.
 pub fn with_terminal(t: &mut Table, q: Point, j: Join)
-    requires tabled { Tabled t.old × Within reach q }
+    requires within { Within reach q }
     requires fits { Fits (table_tree t.old).nodes (join_of j) }
     requires room { Room t.old (new_nodes (join_of j)) (new_number t.old.arena.counts (join_of j)) }
     ensures { Stepped (λ x. join x q (join_of j)) t.old t.new }
@@ -49,7 +50,6 @@ pub fn with_terminal(t: &mut Table, q: Point, j: Join)
 
 // The one-child Steiner nodes go.
 pub fn without_lone_nodes(t: &mut Table)
-    requires { Tabled t.old }
     ensures { Stepped optimize t.old t.new }
 {
     optimizing::optimize(&mut t.arena);

@@ -1,17 +1,18 @@
 -- In a table's arena a tree stands.
-use mathlib.Core.Path.{refl, sym, subst}
-use Prim.Native.Nat.{ℕ}
-use native.Mathlib.Omega.{arith}
+use Rattle.std.proofs.Common.{refl, sym, subst, ℕ, arith}
 use Rattle.tree.specs.Limits.{most_nodes}
 use Rattle.tree.specs.Tree.{Tree}
 use Rattle.joining.specs.Store.{SizedStore}
 use Rattle.joining.specs.Standing.{Stores, Stands}
 use Rattle.joining.proofs.Reading.{backs_of}
 use Rattle.tables.specs.declared.Table.{Table}
-use Rattle.tables.specs.Table.{table_columns, table_links, table_store, table_tree, Tabled}
+use Rattle.tables.specs.Table.{table_columns, table_links, table_store, table_tree, Tabled, tabled}
 use Rattle.tables.proofs.TableSizes.{size, few}
 
-module _ {t : Table} (v : Tabled t) where
+module _ (t : Table) where
+  v : Tabled t
+  v = tabled t
+
   pub stores : Stores (table_tree t) t.arena.counts (table_store t)
   stores =
       record {
@@ -19,7 +20,7 @@ module _ {t : Table} (v : Tabled t) where
         steiner = refl;
         terminal = refl;
         keeps = v.keeps;
-        backs = backs_of (table_tree t) v.formed (few v) most_nodes (table_columns t) v.sized v.keeps (few v) (table_links t).next (λ p h. v.back.agree p (omega (arith, size t)));
+        backs = backs_of (table_tree t) v.formed (few t) most_nodes (table_columns t) v.sized v.keeps (few t) (table_links t).next (λ p h. v.back.agree p (omega (arith, size t)));
       }
 
   sized : SizedStore most_nodes (table_store t)

@@ -1,13 +1,8 @@
 -- Rows of nodes: a node's row, and the loop that stores rows in columns. The rows before i are the nodes'.
-use Prim.Native.Nat.{ℕ, ◌+◌, ◌<◌}
-use mathlib.Core.Path.{◌≡◌, refl, sym, ap, subst, ◌∙◌}
-use mathlib.Core.List.{List}
-use native.Mathlib.Decide.{ℕ_discrete}
-use native.Mathlib.Omega.{arith}
-use lib.ListN.{length, get_or}
+use Rattle.std.proofs.Common.{ℕ, ◌+◌, ◌<◌, ◌≡◌, refl, sym, ap, subst, ◌∙◌, List, arith, length, get_or, Option, None, Some}
+use Rattle.std.proofs.Math.Decide.{ℕ_discrete}
 use Rattle.std.proofs.lemmas.List.{get_or_default}
 use borrow.Author.Tests.{ne_eqb}
-use Rattle.std.specs.Prelude.{Option, None, Some}
 use Rattle.tree.specs.Limits.{most_nodes, no_node}
 use Rattle.tree.specs.Tree.{at}
 use Rattle.tree.specs.declared.NodeIndex.{NodeIndex}

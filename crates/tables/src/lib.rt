@@ -8,19 +8,20 @@ ghost use Rattle.tree.specs.Memory.{name_in, node_in};
 ghost use Rattle.joining.specs.Store.{Columns, row_at, SizedRows, node_from, nodes_of};
 ghost use Rattle.joining.specs.Buffers.{column, rows_held};
 ghost use Rattle.tables.specs.Nodes.{blank_node, Packs, Plain, Unpackable, lookup_of};
-ghost use Rattle.tables.specs.Table.{table_tree, Tabled};
+ghost use Rattle.tables.specs.Held.{TreeIn};
 
 use geometry::Point;
 use joining::{Arena, NodeRows, Row};
 use tree::{NodeIndex, NodeName, RoutingNode};
 
-// A tree in memory, with the figures that come with it.
+// A well-formed tree in memory, with the figures that come with it.
 #[derive(Clone, Copy)]
 pub struct Table {
     pub arena: Arena,
     pub limit: u32,
     pub allowed: i32,
     pub farthest: u32,
+    pub ghost stands: { ∥ TreeIn arena limit allowed farthest ∥₁ },
 }
 
 // ---- nodes from their rows
@@ -68,7 +69,7 @@ pub fn pack(rows: &NodeRows, n: usize) -> [RoutingNode; tree::MOST_NODES]
     nodes
 }
 
-// ---- rows from nodes
+// ---- rows from nodes: an array, of which the first n count, since there is no heap
 
 fn row_of(node: &RoutingNode) -> Row
     requires { Plain node.now }
@@ -110,9 +111,12 @@ fn find_named(rows: &NodeRows, n: u16, name: NodeName) -> Option<NodeIndex>
     None
 }
 
-pub fn find_node(t: &Table, name: NodeName) -> Option<NodeIndex>
-    requires { Tabled t.now }
-    ensures { lookup_of result ≡ lookup (table_tree t.now).nodes (name_in name) t.now.arena.counts.nodes }
-{
-    find_named(&t.arena.nodes, t.arena.counts.nodes, name)
+impl Table {
+    ghost use Rattle.tables.specs.Table.{table_tree};
+
+    pub fn find_node(&self, name: NodeName) -> Option<NodeIndex>
+        ensures { lookup_of result ≡ lookup (table_tree self.now).nodes (name_in name) self.now.arena.counts.nodes }
+    {
+        find_named(&self.arena.nodes, self.arena.counts.nodes, name)
+    }
 }

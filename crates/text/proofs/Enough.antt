@@ -1,9 +1,5 @@
 -- As many levels as there are nodes are enough for the text: a child is less high than its parent.
-use mathlib.Core.Path.{◌≡◌, refl, ap, ◌∙◌}
-use mathlib.Core.List.{List, [], ◌∷◌, ◌++◌, append-nil}
-use Prim.Native.Nat.{ℕ, zero, suc, ◌+◌, ◌≤◌}
-use native.Mathlib.Omega.{arith}
-use lib.ListN.{length}
+use Rattle.std.proofs.Common.{◌≡◌, refl, ap, ◌∙◌, List, [], ◌∷◌, ◌++◌, append-nil, ℕ, zero, suc, ◌+◌, ◌≤◌, arith, length}
 use Rattle.tree.specs.Tree.{Node, at, node_at}
 use Rattle.tree.specs.Shape.{Linked}
 use Rattle.tree.proofs.Searching.{Children, own, head_child, tail_child}

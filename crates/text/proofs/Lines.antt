@@ -1,17 +1,12 @@
 -- A node's line in parts, and a node or a list of children as what was written for it.
-use mathlib.Core.Path.{◌≡◌, refl, sym, ap, ◌∙◌}
-use mathlib.Core.List.{List, [], ◌∷◌, ◌++◌, reverse, reverse-cons, reverse-reverse, append_assoc, append-nil}
-use Prim.Native.Nat.{ℕ, zero, suc, ◌+◌, ◌-◌, ◌≤◌, ◌<◌}
-use native.Mathlib.Numerals.{add-one}
-use native.Mathlib.Omega.{arith}
-use lib.ListN.{length, get_or}
+use Rattle.std.proofs.Common.{◌≡◌, refl, sym, ap, ◌∙◌, List, [], ◌∷◌, ◌++◌, reverse, append_assoc, append-nil, ℕ, zero, suc, ◌+◌, ◌-◌, ◌≤◌, ◌<◌, add-one, arith, length, get_or, Option, None, Some}
+use mathlib.Core.List.{reverse-cons, reverse-reverse}
 use Rattle.tree.specs.Tree.{Node, node_at}
-use Rattle.std.specs.Prelude.{Option, None, Some}
 use Rattle.tree.specs.Memory.{name_in}
 use Rattle.tree.specs.declared.NodeIndex.{NodeIndex}
 use Rattle.joining.specs.declared.Row.{Row}
 use Rattle.joining.specs.Store.{Columns, row_at, index_from}
-use Rattle.measures.proofs.Lent.{Read}
+use Rattle.measures.proofs.Reading.{Read}
 use Rattle.text.specs.Text.{indent, line_of, node_line, each, text_from, text_of}
 use Rattle.measures.specs.Children.{chain_at, Siblings}
 use Rattle.measures.proofs.Children.{siblings_of, children_read, chain-none, chain_step}

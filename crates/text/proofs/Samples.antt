@@ -1,5 +1,5 @@
 -- M6's text, as the definition gives it for the tree of M6.
-use mathlib.Core.Path.{◌≡◌, refl}
+use Rattle.std.proofs.Common.{◌≡◌, refl}
 use Rattle.decimal.specs.Decimal.{decimal_of, digits, int_text}
 use Rattle.decimal.specs.Text.{bytes}
 use Rattle.tree.specs.Tree.{node_at}

@@ -7,16 +7,16 @@ ghost use Rattle.tree.specs.Memory.{name_in};
 ghost use Rattle.wire.specs.Puts.{Puts};
 ghost use Rattle.joining.specs.Buffers.{column};
 ghost use Rattle.measures.specs.Children.{chain_at, Siblings};
-ghost use Rattle.measures.specs.Standing.{Lends, nodes_in};
+ghost use Rattle.measures.specs.Standing.{nodes_in};
 ghost use Rattle.output.specs.Answer.{Answers};
 ghost use Rattle.text.specs.Text.{indent, head_of, line_of, each, text_from, text_of};
 
 use geometry::Point;
-use joining::Arena;
+use measures::Lent;
 use refusal::Refusal;
 use tree::{NodeIndex, NodeName};
 
-// ---- a line
+// ---- a line (an output and its place: see wire, "writing")
 
 fn put_indent(out: &mut [u8], at: usize, level: usize) -> usize
     ensures { Puts out.old at (indent level) out.new result }
@@ -60,67 +60,63 @@ fn put_line(out: &mut [u8], at: usize, level: usize, name: NodeName, pt: Point) 
 
 #[cycle(put_children_put_node)]
 fn put_node(
-    arena: &Arena,
+    tree: Lent,
     out: &mut [u8],
     at: usize,
     level: usize,
     node: NodeIndex,
     left: usize,
 ) -> usize
-    requires lends { Lends arena.now }
-    requires node_lt_n { (node.0 < arena.now.counts.nodes) × (level + left ≤ most_nodes) }
-    ensures { Puts out.old at (text_from (nodes_in arena.now) left level node.0) out.new result }
+    requires { (node.0 < tree.arena.now.counts.nodes) × (level + left ≤ most_nodes) }
+    ensures { Puts out.old at (text_from (nodes_in tree.entry.arena.now) left level node.0) out.new result }
 {
-    let row = arena.nodes.row_at(usize::from(node));
+    let row = tree.arena.nodes.row_at(usize::from(node));
     let p = put_line(out, at, level, row.name, row.point);
     if left == 0 {
         return p;
     }
-    let child = joining::last_child(&arena.links, usize::from(node));
-    put_children(arena, out, p, level + 1, child, left - 1)
+    let child = joining::last_child(&tree.arena.links, usize::from(node));
+    put_children(tree, out, p, level + 1, child, left - 1)
 }
 
 // A child and the siblings before it: first those, then the child.
 #[cycle(put_children_put_node)]
 fn put_children(
-    arena: &Arena,
+    tree: Lent,
     out: &mut [u8],
     at: usize,
     level: usize,
     child: Option<NodeIndex>,
     left: usize,
 ) -> usize
-    requires lends { Lends arena.now }
-    requires siblings { Siblings (column 1 arena.now.links) arena.now.counts.nodes child × (level + left ≤ most_nodes) }
-    ensures { Puts out.old at (each (text_from (nodes_in arena.now) left level) (reverse (chain_at (column 1 arena.now.links) child))) out.new result }
+    requires { Siblings (column 1 tree.arena.now.links) tree.arena.now.counts.nodes child × (level + left ≤ most_nodes) }
+    ensures { Puts out.old at (each (text_from (nodes_in tree.entry.arena.now) left level) (reverse (chain_at (column 1 tree.entry.arena.now.links) child))) out.new result }
 {
     let Some(c) = child else {
         return at;
     };
-    let before = joining::child_before(&arena.links, usize::from(c));
-    let p = put_children(arena, out, at, level, before, left);
-    put_node(arena, out, p, level, c, left)
+    let before = joining::child_before(&tree.arena.links, usize::from(c));
+    let p = put_children(tree, out, at, level, before, left);
+    put_node(tree, out, p, level, c, left)
 }
 
 // The text at a place: what would stand past the end is left out, and still counts.
-pub fn put_text(arena: &Arena, out: &mut [u8], at: usize) -> usize
-    requires { Lends arena.now }
-    ensures { Puts out.old at (text_of (nodes_in arena.now)) out.new result }
+pub fn put_text(tree: Lent, out: &mut [u8], at: usize) -> usize
+    ensures { Puts out.old at (text_of (nodes_in tree.entry.arena.now)) out.new result }
 {
     put_node(
-        arena,
+        tree,
         out,
         at,
         0,
         NodeIndex(0),
-        usize::from(arena.counts.nodes),
+        usize::from(tree.arena.counts.nodes),
     )
 }
 
 // The text, if it fits whole.
-pub fn write_text(arena: &Arena, out: &mut [u8]) -> Result<usize, Refusal>
-    requires { Lends arena.now }
-    ensures { Answers (text_of (nodes_in arena.now)) out.old result out.new }
+pub fn write_text(tree: Lent, out: &mut [u8]) -> Result<usize, Refusal>
+    ensures { Answers (text_of (nodes_in tree.entry.arena.now)) out.old result out.new }
 {
-    output::write_measured(out, |out| put_text(arena, out, 0))
+    output::write_measured(out, |out| put_text(tree, out, 0))
 }

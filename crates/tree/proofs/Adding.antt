@@ -1,12 +1,7 @@
 -- Nodes with one more, however they are linked: the old ones keep name, point and path, and the new one stands last. So what holds of the name, point and
 -- path of every node holds again, names stay distinct, and there are as many terminals as numbers given out.
-use mathlib.Core.Path.{◌≡◌, refl, sym, ap, subst, ◌∙◌}
-use mathlib.Core.Logic.{◌≢◌}
-use mathlib.Core.List.{List, [], ◌∷◌, ◌++◌}
-use Prim.Native.Nat.{ℕ, suc, ◌+◌, ◌≤◌, ◌<◌}
-use native.Mathlib.Decide.{ℕ_discrete}
-use native.Mathlib.Omega.{arith}
-use lib.ListN.{length, length-append}
+use Rattle.std.proofs.Common.{◌≡◌, refl, sym, ap, subst, ◌∙◌, ◌≢◌, List, [], ◌∷◌, ◌++◌, ℕ, suc, ◌+◌, ◌≤◌, ◌<◌, arith, length, length-append}
+use Rattle.std.proofs.Math.Decide.{ℕ_discrete}
 use Rattle.geometry.specs.declared.Point.{Point}
 use Rattle.tree.specs.Tree.{Node, Name, source, steiner, terminal, node_at, change, adopt, terminal_of, terminals}
 use Rattle.tree.specs.Route.{attach, steiner_after, terminal_after}

@@ -1,10 +1,6 @@
 -- Jobs alike but for order get the same tree: sorting forgets the order of terminals (Order.antt), and keepouts are read only through `blocked`, which asks whether any stops.
-use mathlib.Core.Path.{◌≡◌, refl, sym, ap, ap₂, ◌∙◌}
-use mathlib.Core.Logic.{⊎_elim}
-use mathlib.Core.Bool.{Bool, true}
-use Prim.Native.Nat.{◌+◌}
-use mathlib.Core.List.{List, [], ◌∷◌, Memᴰ}
-use lib.IntN.{pos}
+use Rattle.std.proofs.Common.{◌≡◌, refl, sym, ap, ap₂, ◌∙◌, ⊎_elim, Bool, true, ◌+◌, List, [], ◌∷◌, pos}
+use mathlib.Core.List.{Memᴰ}
 use Rattle.geometry.specs.Signed.{no_way}
 use Rattle.tree.specs.Tree.{Tree}
 use Rattle.tree.specs.Limits.{no_limit}

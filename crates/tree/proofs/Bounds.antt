@@ -1,10 +1,6 @@
 -- What is kept as a tree grows by the search: path lengths are sums from the source at s, and each terminal's path is under its ceiling. Demand 3's
 -- own words stand in route/specs/Demand3.antt; these records are what is carried from one joining to the next.
-use mathlib.Core.Path.{◌≡◌}
-use mathlib.Core.List.{List}
-use Prim.Native.Nat.{ℕ, ◌≤◌, ◌<◌}
-use lib.ListN.{length}
-use lib.IntN.{ℤ, pos}
+use Rattle.std.proofs.Common.{◌≡◌, List, ℕ, ◌≤◌, ◌<◌, length, ℤ, pos}
 use lib.Signed.{◌≤ℤ◌}
 use Rattle.geometry.specs.declared.Point.{Point}
 use Rattle.geometry.specs.Geometry.{dist}

@@ -1,11 +1,6 @@
 -- Laws of Boolean tests, and the three ways in which two numbers compare.
-use Prim.Native.Nat.{ℕ, ◌<◌}
-use native.Mathlib.Decide.{dec_lt}
-use native.Mathlib.Omega.{arith}
-use mathlib.Core.Path.{◌≡◌, refl, sym, subst}
-use mathlib.Core.Logic.{◌⊎◌, inl, inr}
-use mathlib.Core.Bool.{Bool, true, false, ◌&&◌, ◌||◌}
-use lib.Dec.{T}
+use Rattle.std.proofs.Common.{ℕ, ◌<◌, arith, ◌≡◌, refl, sym, subst, ◌⊎◌, inl, inr, Bool, true, false, ◌&&◌, ◌||◌, T}
+use Rattle.std.proofs.Math.Decide.{dec_lt}
 use Rattle.geometry.specs.Signed.{no_way}
 
 pub never : {X : Type 0} → true ≡ false → X

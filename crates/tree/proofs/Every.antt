@@ -1,10 +1,7 @@
 -- What holds of the name, point and path of every node holds after a branch is split, where it holds of those of the new nodes: a joining changes no old
 -- node's. (For one more node it is `every_adds` in Adding.)
-use mathlib.Core.Path.{◌≡◌, sym, ap, subst, ◌∙◌}
-use mathlib.Core.List.{List}
-use Prim.Native.Nat.{ℕ, suc, ◌+◌}
-use native.Mathlib.Decide.{ℕ_discrete}
-use lib.ListN.{length}
+use Rattle.std.proofs.Common.{◌≡◌, sym, ap, subst, ◌∙◌, List, ℕ, suc, ◌+◌, length}
+use Rattle.std.proofs.Math.Decide.{ℕ_discrete}
 use Rattle.geometry.specs.declared.Point.{Point}
 use Rattle.geometry.specs.Geometry.{dist}
 use Rattle.tree.specs.Tree.{Node, terminal, steiner, at, node_at}

@@ -1,14 +1,7 @@
 -- Without keepouts the search takes the first branch, in the order of the walk, that has the least D: among the branches within the
 -- allowance, or, where there is none, among those within the tree limit. The idea: before that branch what is found is behind it; it is taken; and no other is
 -- taken after it. The walk and the order are two readings of one stack, so no branch is counted.
-use mathlib.Core.Path.{◌≡◌, refl, sym, ap, subst, ◌∙◌}
-use mathlib.Core.Bool.{Bool, true, false, not, ◌||◌, cond}
-use mathlib.Core.List.{List, [], ◌∷◌, ◌++◌}
-use Prim.Native.Nat.{ℕ, zero, suc, ◌≤◌, ◌<◌, max}
-use native.Mathlib.Omega.{arith}
-use lib.ListN.{length}
-use lib.Dec.{leb, ltb}
-use lib.IntN.{ℤ, pos}
+use Rattle.std.proofs.Common.{◌≡◌, refl, sym, ap, subst, ◌∙◌, Bool, true, false, not, ◌||◌, cond, List, [], ◌∷◌, ◌++◌, ℕ, zero, suc, ◌≤◌, ◌<◌, max, arith, length, leb, ltb, ℤ, pos}
 use lib.Signed.{le_z}
 use borrow.Author.Tests.{ltb-true, lt-ltb, leb-true, not-true}
 use Rattle.geometry.specs.Signed.{no_way}

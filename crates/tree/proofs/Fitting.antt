@@ -1,11 +1,6 @@
 -- The search finds a place in any tree whose links agree, whatever path lengths its nodes carry: so inserting keeps links and names after hand edits too. Path lengths
 -- that are sums stay so, whatever the limit.
-use mathlib.Core.Path.{◌≡◌}
-use mathlib.Core.Bool.{Bool, true, false, ◌||◌, cond}
-use mathlib.Core.List.{List, [], ◌∷◌}
-use Prim.Native.Nat.{ℕ, zero, suc}
-use lib.ListN.{length}
-use lib.IntN.{ℤ, pos}
+use Rattle.std.proofs.Common.{◌≡◌, Bool, true, false, ◌||◌, cond, List, [], ◌∷◌, ℕ, zero, suc, length, ℤ, pos}
 use lib.Signed.{le_z}
 use Rattle.geometry.specs.declared.Point.{Point}
 use Rattle.geometry.specs.declared.Rectangle.{Rectangle}

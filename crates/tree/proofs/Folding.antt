@@ -1,10 +1,8 @@
 -- Two laws for elements of any kind, said once for points (Order.antt) and for numbers (crate `sorting`): an element put into its place by a total
 -- order commutes with another, and a fold whose steps commute depends only on how often each element stands there. Assumes nothing.
-use mathlib.Core.Path.{◌≡◌, refl, sym, ap, ◌∙◌}
-use mathlib.Core.Bool.{Bool, true, false, false≢true}
-use mathlib.Core.List.{List, [], ◌∷◌, foldr}
-use Prim.Native.Nat.{ℕ, ◌+◌, ◌<◌}
-use native.Mathlib.Omega.{arith}
+use Rattle.std.proofs.Common.{◌≡◌, refl, sym, ap, ◌∙◌, Bool, true, false, List, [], ◌∷◌, ℕ, ◌+◌, ◌<◌, arith}
+use Rattle.std.proofs.Math.Bool.{false≢true}
+use mathlib.Core.List.{foldr}
 use Rattle.tree.specs.Tree.{one}
 
 -- ---- placing by a total order

@@ -28,3 +28,4 @@ pub mod Nearest
 pub mod Looking
 pub mod Firsts
 pub mod Fenced
+pub mod Merely

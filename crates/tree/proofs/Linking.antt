@@ -1,14 +1,7 @@
 -- Joining keeps the links: the children of each node are still those whose parent it is. How often a node stands in each list of children before and after
 -- is counted; ranks are doubled, so that a new node fits between a parent and its child.
-use mathlib.Core.Path.{◌≡◌, refl, sym, ap, ◌∙◌}
-use mathlib.Core.Logic.{◌≢◌, ◌⊎◌, inl, inr, ⊎_elim}
-use mathlib.Core.Bool.{Bool, cond}
-use mathlib.Core.List.{List, [], ◌∷◌, ◌++◌}
-use Prim.Native.Nat.{ℕ, suc, ◌+◌, ◌*◌, ◌≤◌, ◌<◌}
-use native.Mathlib.Decide.{dec_lt}
-use native.Mathlib.Omega.{arith}
-use lib.ListN.{length}
-use lib.Dec.{eqb}
+use Rattle.std.proofs.Common.{◌≡◌, refl, sym, ap, ◌∙◌, ◌≢◌, ◌⊎◌, inl, inr, ⊎_elim, Bool, cond, List, [], ◌∷◌, ◌++◌, ℕ, suc, ◌+◌, ◌*◌, ◌≤◌, ◌<◌, arith, length, eqb}
+use Rattle.std.proofs.Math.Decide.{dec_lt}
 use borrow.Author.Tests.{eq-eqb, ne_eqb}
 use Rattle.geometry.specs.declared.Point.{Point}
 use Rattle.tree.specs.Tree.{one}

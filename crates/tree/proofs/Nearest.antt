@@ -1,15 +1,8 @@
 -- Without keepouts, a branch within the allowance that is strictly nearer than every other one within it is where the search joins, whatever the order of the
 -- walk. The idea: until that branch is examined, what is found within the allowance is farther; once examined it is taken, and no other is taken after it. The
 -- walk pops every node, so it examines the branch.
-use mathlib.Core.Path.{◌≡◌, refl, sym, ap, subst, ◌∙◌}
-use mathlib.Core.Logic.{◌≢◌}
-use mathlib.Core.Bool.{Bool, true, false, not, ◌||◌, cond}
-use mathlib.Core.List.{List, [], ◌∷◌}
-use Prim.Native.Nat.{ℕ, ◌+◌, ◌≤◌, ◌<◌}
-use native.Mathlib.Decide.{ℕ_discrete}
-use native.Mathlib.Omega.{arith}
-use lib.Dec.{eqb, ltb}
-use lib.IntN.{ℤ, pos}
+use Rattle.std.proofs.Common.{◌≡◌, refl, sym, ap, subst, ◌∙◌, ◌≢◌, Bool, true, false, not, ◌||◌, cond, List, [], ◌∷◌, ℕ, ◌+◌, ◌≤◌, ◌<◌, arith, eqb, ltb, ℤ, pos}
+use Rattle.std.proofs.Math.Decide.{ℕ_discrete}
 use lib.Signed.{le_z}
 use borrow.Author.Tests.{ltb-true, lt-ltb, not-true}
 use Rattle.geometry.specs.Signed.{no_way}

@@ -1,13 +1,8 @@
 -- `optimize` keeps a tree well formed and leaves no one-child Steiner node, and a pass down the indices that removes each as it finds it computes `optimized`.
 -- The idea: a removal changes neither the name nor the number of children of another node, so which nodes are lone can be asked at any time.
-use mathlib.Core.Path.{◌≡◌, refl, sym, ap, ap₂, subst, ◌∙◌}
-use mathlib.Core.Bool.{Bool, true, false, ◌&&◌, cond}
-use mathlib.Core.List.{List, [], ◌∷◌, ◌++◌, foldr, foldr-append, append-nil}
-use Prim.Native.Nat.{ℕ, zero, suc, ◌≤◌, ◌<◌}
-use native.Mathlib.Decide.{ℕ_discrete}
-use native.Mathlib.Omega.{arith}
-use lib.ListN.{length}
-use lib.Dec.{eqb}
+use Rattle.std.proofs.Common.{◌≡◌, refl, sym, ap, ap₂, subst, ◌∙◌, Bool, true, false, ◌&&◌, cond, List, [], ◌∷◌, ◌++◌, append-nil, ℕ, zero, suc, ◌≤◌, ◌<◌, arith, length, eqb}
+use Rattle.std.proofs.Math.Decide.{ℕ_discrete}
+use mathlib.Core.List.{foldr, foldr-append}
 use Rattle.tree.specs.Tree.{Node, Tree, Name, Parent, none, at, node_at}
 use Rattle.tree.specs.Measures.{those}
 use Rattle.tree.specs.Shape.{Linked}

@@ -1,14 +1,8 @@
 -- A one-child Steiner node goes: its parent p and its child c are linked past it, and then indices close up; the tree stays well formed.
 -- The idea: among the other nodes links agree as soon as they go past it (`bypass`), and none leads to it, so closing up only renames them. The rank is the old one.
-use mathlib.Core.Path.{◌≡◌, refl, sym, ap, subst, ◌∙◌}
-use mathlib.Core.Logic.{◌≢◌}
-use mathlib.Core.Bool.{Bool, true, ◌&&◌}
-use mathlib.Core.List.{List, [], ◌∷◌, ◌++◌, map}
-use Prim.Native.Nat.{ℕ, zero, suc, ◌+◌, ◌<◌}
-use native.Mathlib.Decide.{dec_lt}
-use native.Mathlib.Omega.{arith}
-use lib.ListN.{length, length-append, length-map}
-use lib.Dec.{eqb}
+use Rattle.std.proofs.Common.{◌≡◌, refl, sym, ap, subst, ◌∙◌, ◌≢◌, Bool, true, ◌&&◌, List, [], ◌∷◌, ◌++◌, map, ℕ, zero, suc, ◌+◌, ◌<◌, arith, length, length-append, eqb}
+use Rattle.std.proofs.Math.Decide.{dec_lt}
+use Rattle.std.proofs.Math.ListN.{length-map}
 use borrow.Author.Tests.{eqb-true}
 use Rattle.std.specs.Cmp.{second_so}
 use Rattle.geometry.specs.Signed.{no_way}

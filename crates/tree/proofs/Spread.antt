@@ -1,6 +1,5 @@
 -- Coordinates stay within the limit: a new point is given within it, and a Steiner node lies in the box of two points that are.
-use mathlib.Core.List.{List}
-use Prim.Native.Nat.{ℕ}
+use Rattle.std.proofs.Common.{List, ℕ}
 use Rattle.geometry.specs.declared.Point.{Point}
 use Rattle.tree.specs.Tree.{Node, node_at}
 use Rattle.tree.specs.Search.{Join, onto, split}

@@ -1,8 +1,6 @@
 -- Two of document 01's "errors that tempt", shut out of the definitions themselves by computing: an edit of a definition that makes one of them is
 -- refused here. The others change the code's tests, and are refused there.
-use mathlib.Core.Path.{◌≡◌, refl}
-use mathlib.Core.List.{List, [], ◌∷◌, map}
-use lib.IntN.{pos, neg_ℤ}
+use Rattle.std.proofs.Common.{◌≡◌, refl, List, [], ◌∷◌, map, pos, neg_ℤ}
 use Rattle.geometry.specs.declared.Point.{Point}
 use Rattle.geometry.specs.Geometry.{gap, dist, min_z, max_z, clip, same, origin}
 use Rattle.tree.specs.Tree.{Node, none, at, node_at, change, without, replace_last}

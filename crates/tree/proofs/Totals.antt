@@ -1,12 +1,7 @@
 -- The total after a joining: what is added is the distance to the node that is joined, or to the point of the branch. Edges are compared one by one, and
 -- all but those of the new nodes and of the branch end stay.
-use mathlib.Core.Path.{◌≡◌, refl, ap, ap₂, ◌∙◌}
-use mathlib.Core.Logic.{◌≢◌, ⊎_elim}
-use mathlib.Core.List.{List, []}
-use Prim.Native.Nat.{ℕ, zero, suc, ◌+◌, ◌<◌}
-use native.Mathlib.Decide.{dec_lt}
-use native.Mathlib.Omega.{arith}
-use lib.ListN.{length}
+use Rattle.std.proofs.Common.{◌≡◌, refl, ap, ap₂, ◌∙◌, ◌≢◌, ⊎_elim, List, [], ℕ, zero, suc, ◌+◌, ◌<◌, arith, length}
+use Rattle.std.proofs.Math.Decide.{dec_lt}
 use Rattle.geometry.specs.declared.Point.{Point}
 use Rattle.geometry.specs.Geometry.{dist}
 use Rattle.tree.specs.Tree.{Node, Parent, none, at, node_at, sum_to, edge, to_parent, total}

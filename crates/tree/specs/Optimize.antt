@@ -1,6 +1,6 @@
 -- `optimize_steiner_points` (document 01, "Measures, edits, text"). Definitions only.
-use Rattle.std.specs.Prelude.{ℕ, zero, suc, Bool, true, false, ◌&&◌, cond, length, eqb, ltb}
-use mathlib.Core.List.{List, [], ◌∷◌, foldr, map}
+use Rattle.std.specs.Prelude.{ℕ, zero, suc, Bool, true, false, ◌&&◌, cond, length, eqb, ltb, List, [], ◌∷◌, map}
+use mathlib.Core.List.{foldr}
 use Rattle.tree.specs.Tree.{Node, Tree, Name, source, steiner, terminal, Parent, none, at, node_at, change, with_parent, replace_last}
 use Rattle.tree.specs.Measures.{those}
 

@@ -1,6 +1,6 @@
 -- Sorting, joining and routing (document 01, "Sorting, search, joining" and "Measures, edits, text"). Definitions only.
-use Rattle.std.specs.Prelude.{ℕ, zero, suc, ◌+◌, max, Bool, ◌&&◌, ◌||◌, cond, ◌≡◌, length, eqb, ltb, ℤ, pos}
-use mathlib.Core.List.{List, [], ◌∷◌, ◌++◌, foldr, Memᴰ}
+use Rattle.std.specs.Prelude.{ℕ, zero, suc, ◌+◌, max, Bool, ◌&&◌, ◌||◌, cond, ◌≡◌, length, eqb, ltb, ℤ, pos, List, [], ◌∷◌, ◌++◌}
+use mathlib.Core.List.{foldr, Memᴰ}
 use Rattle.std.specs.Int.Signed.{le_z, lt_z}
 use Rattle.tree.specs.Limits.{no_limit}
 use Rattle.geometry.specs.declared.Point.{Point}

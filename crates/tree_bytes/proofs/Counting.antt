@@ -1,9 +1,5 @@
 -- The loop that counts the nodes of a kind.
-use mathlib.Core.Path.{◌≡◌, refl, ap, ◌∙◌}
-use mathlib.Core.List.{List, [], ◌∷◌}
-use Prim.Native.Nat.{ℕ, ◌+◌, ◌≤◌, ◌<◌}
-use native.Mathlib.Omega.{arith}
-use lib.ListN.{length, length-append}
+use Rattle.std.proofs.Common.{◌≡◌, refl, ap, ◌∙◌, List, [], ◌∷◌, ℕ, ◌+◌, ◌≤◌, ◌<◌, arith, length, length-append}
 use Rattle.tree.specs.Tree.{Node, node_at}
 use Rattle.tree.specs.Measures.{kind_of, those, of_kind}
 use Rattle.measures.proofs.KindsOf.{is_kind, one_more, none_more}

@@ -1,13 +1,6 @@
 -- A node's fields as they are read, and records one after the other.
-use mathlib.Core.Path.{◌≡◌, refl, ap, sym, ◌∙◌}
-use mathlib.Core.List.{List, [], ◌∷◌, ◌++◌}
-use Prim.Native.Nat.{ℕ, zero, suc, ◌+◌, ◌≤◌, ◌<◌}
-use native.Mathlib.Numerals.{add-one}
-use native.Mathlib.Omega.{arith}
-use lib.ListN.{get_or}
-use lib.IntN.{pos}
+use Rattle.std.proofs.Common.{◌≡◌, refl, ap, sym, ◌∙◌, List, [], ◌∷◌, ◌++◌, ℕ, zero, suc, ◌+◌, ◌≤◌, ◌<◌, add-one, arith, get_or, pos, Option, None, Some, IfSome}
 use Rattle.wire.specs.Fields.{le_bytes, bits32, int32_bytes}
-use Rattle.std.specs.Prelude.{Option, None, Some, IfSome}
 use Rattle.tree.specs.Limits.{most_nodes}
 use Rattle.tree.specs.Memory.{name_in}
 use Rattle.tree.specs.declared.NodeIndex.{NodeIndex}
@@ -15,7 +8,7 @@ use Rattle.tree.specs.Tree.{Node, node_at}
 use Rattle.tree.specs.Measures.{kind_of, number_of, place_under}
 use Rattle.joining.specs.declared.Row.{Row}
 use Rattle.joining.specs.Store.{Columns, row_at, index_from, node_from}
-use Rattle.measures.proofs.Lent.{Read, parent_low}
+use Rattle.measures.proofs.Reading.{Read, parent_low}
 use Rattle.tree_bytes.specs.TreeBytes.{parent_byte, record_of, in_turn}
 use Rattle.tree_bytes.specs.Show.{show_record}
 

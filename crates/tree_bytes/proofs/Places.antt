@@ -1,14 +1,8 @@
 -- A node's place among its parent's children is how many steps along prev there are; and the loop that counts them.
-use mathlib.Core.Path.{◌≡◌, refl, sym, ap, subst, ◌∙◌}
-use mathlib.Core.Logic.{inl, inr}
-use mathlib.Core.Bool.{Bool, true, false, cond}
-use mathlib.Core.List.{List, [], ◌∷◌, ◌++◌, reverse, reverse-cons, reverse-reverse}
-use Prim.Native.Nat.{ℕ, suc, ◌+◌, ◌≤◌, ◌<◌}
-use native.Mathlib.Omega.{arith}
-use lib.ListN.{length, get_or, length-reverse}
-use lib.Dec.{eqb}
+use Rattle.std.proofs.Common.{◌≡◌, refl, sym, ap, subst, ◌∙◌, inl, inr, Bool, true, false, cond, List, [], ◌∷◌, ◌++◌, reverse, ℕ, suc, ◌+◌, ◌≤◌, ◌<◌, arith, length, get_or, eqb, Option, None, Some}
+use Rattle.std.proofs.Math.ListN.{length-reverse}
+use mathlib.Core.List.{reverse-cons, reverse-reverse}
 use borrow.Author.Tests.{eq-eqb, eqb-true}
-use Rattle.std.specs.Prelude.{Option, None, Some}
 use Rattle.tree.specs.Limits.{most_nodes}
 use Rattle.tree.specs.declared.NodeIndex.{NodeIndex}
 use Rattle.tree.specs.Tree.{one, Node, at, node_at}
@@ -22,7 +16,7 @@ use Rattle.search.specs.Find.{examined}
 use Rattle.joining.specs.Store.{Columns, index_from}
 use Rattle.joining.proofs.Agree.{count-reverse, once}
 use Rattle.measures.specs.Children.{chain_at, Siblings}
-use Rattle.measures.proofs.Lent.{Read, parent_is, parent_low}
+use Rattle.measures.proofs.Reading.{Read, parent_is, parent_low}
 use Rattle.measures.proofs.Children.{link_read, siblings_from, chain-none, siblings_before, chain_step}
 
 -- not there: the place of the new one is the length

@@ -1,8 +1,5 @@
 -- M6's bytes, as the definition gives them for the tree of M6.
-use mathlib.Core.Path.{◌≡◌, refl}
-use mathlib.Core.List.{List, [], ◌∷◌, ◌++◌}
-use Prim.Native.Nat.{ℕ}
-use lib.IntN.{pos}
+use Rattle.std.proofs.Common.{◌≡◌, refl, List, [], ◌∷◌, ◌++◌, ℕ, pos}
 use Rattle.geometry.specs.Geometry.{gap, dist}
 use Rattle.wire.specs.Fields.{le_bytes, bits32}
 use Rattle.tree.specs.Tree.{node_at, sum_to}

@@ -1,13 +1,9 @@
 -- The header and the records that are written are the tree's bytes.
-use mathlib.Core.Path.{◌≡◌, sym}
-use mathlib.Core.List.{List, ◌++◌}
-use Prim.Native.Nat.{ℕ}
-use lib.ListN.{length}
-use lib.IntN.{ℤ}
+use Rattle.std.proofs.Common.{◌≡◌, sym, List, ◌++◌, ℕ, length, ℤ}
 use Rattle.tree.specs.Tree.{Node, total}
 use Rattle.tree.specs.Measures.{worst, steiner_nodes, terminal_nodes}
 use Rattle.joining.specs.Store.{Columns}
-use Rattle.measures.proofs.Lent.{Read}
+use Rattle.measures.proofs.Reading.{Read}
 use Rattle.tree_bytes.specs.TreeBytes.{record_of, in_turn, header_of, bytes_of}
 
 module _ {ns : List Node} {c : Columns} {n : ℕ} (v : Read ns c n) {allowed : ℤ} {w : ℕ} where

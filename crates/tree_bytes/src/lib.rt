@@ -7,14 +7,13 @@ ghost use Rattle.tree.specs.Limits.{most_nodes};
 ghost use Rattle.tree.specs.Tree.{node_at};
 ghost use Rattle.tree.specs.Measures.{of_kind, place_under};
 ghost use Rattle.tree.specs.Memory.{type_number, parent_in};
-ghost use Rattle.measures.specs.Standing.{Lends, nodes_in};
+ghost use Rattle.measures.specs.Standing.{nodes_in};
 ghost use Rattle.output.specs.Answer.{Answers};
 ghost use Rattle.tree_bytes.specs.TreeBytes.{parent_byte, record_of, in_turn, header_of, bytes_of};
 ghost use Rattle.tree_bytes.specs.Show.{show_record};
 
 use geometry::Point;
-use joining::Arena;
-use measures::Figures;
+use measures::{Figures, Lent};
 use refusal::Refusal;
 use tree::{NodeIndex, NodeType};
 
@@ -23,6 +22,8 @@ const NO_PARENT: u8 = 255;
 
 // ---- a node's fields
 
+// The format's number, as a byte: the enum stands in its order. (`as`, here and below: indices, numbers and counts of a tree are within MOST_NODES;
+// `try_from` would test that again.)
 fn kind_byte(kind: NodeType) -> u8
     ensures { result ≡ type_number kind }
 {
@@ -30,19 +31,18 @@ fn kind_byte(kind: NodeType) -> u8
 }
 
 // How many siblings stand before a node that has a parent: steps along prev.
-fn place(arena: &Arena, i: usize) -> u8
-    requires lends { Lends arena.now }
-    requires i_lt_n { i < arena.now.counts.nodes }
-    ensures { result ≡ place_under (nodes_in arena.now) i (node_at (nodes_in arena.now) i).parent }
+fn place(tree: Lent, i: usize) -> u8
+    requires { i < tree.arena.now.counts.nodes }
+    ensures { result ≡ place_under (nodes_in tree.entry.arena.now) i (node_at (nodes_in tree.entry.arena.now) i).parent }
 {
-    let Some(_parent) = arena.nodes.parent_at(i) else {
+    let Some(_parent) = tree.arena.nodes.parent_at(i) else {
         return 0;
     };
     let mut steps: u8 = 0;
-    let mut sibling = joining::child_before(&arena.links, i);
+    let mut sibling = joining::child_before(&tree.arena.links, i);
     while let Some(c) = sibling {
         steps += 1;
-        sibling = joining::child_before(&arena.links, usize::from(c));
+        sibling = joining::child_before(&tree.arena.links, usize::from(c));
     }
     steps
 }
@@ -68,16 +68,15 @@ struct Record {
     path: u32,
 }
 
-fn record_at(arena: &Arena, i: usize) -> Record
-    requires lends { Lends arena.now }
-    requires i_lt_n { i < arena.now.counts.nodes }
-    ensures { show_record result ≡ record_of (nodes_in arena.now) i }
+fn record_at(tree: Lent, i: usize) -> Record
+    requires { i < tree.arena.now.counts.nodes }
+    ensures { show_record result ≡ record_of (nodes_in tree.entry.arena.now) i }
 {
-    let row = arena.nodes.row_at(i);
+    let row = tree.arena.nodes.row_at(i);
     let kind = kind_byte(row.name.node_type());
-    let parent = parent_byte(arena.nodes.parent_at(i));
+    let parent = parent_byte(tree.arena.nodes.parent_at(i));
     let number = row.name.number() as u8;
-    let place = place(arena, i);
+    let place = place(tree, i);
     Record {
         kind,
         parent,
@@ -88,7 +87,7 @@ fn record_at(arena: &Arena, i: usize) -> Record
     }
 }
 
-// ---- writing
+// ---- writing (an output and its place: see wire, "writing")
 
 fn put_record(out: &mut [u8], at: usize, r: Record) -> usize
     ensures { Puts out.old at (show_record r) out.new result }
@@ -100,26 +99,24 @@ fn put_record(out: &mut [u8], at: usize, r: Record) -> usize
 }
 
 // The records, in index order.
-fn put_records(arena: &Arena, out: &mut [u8], at: usize) -> usize
-    requires { Lends arena.now }
-    ensures { Puts out.old at (in_turn (record_of (nodes_in arena.now)) arena.now.counts.nodes) out.new result }
+fn put_records(tree: Lent, out: &mut [u8], at: usize) -> usize
+    ensures { Puts out.old at (in_turn (record_of (nodes_in tree.entry.arena.now)) tree.entry.arena.now.counts.nodes) out.new result }
 {
     let mut p = at;
-    for i in 0..usize::from(arena.counts.nodes) {
-        let r = record_at(arena, i);
+    for i in 0..usize::from(tree.arena.counts.nodes) {
+        let r = record_at(tree, i);
         p = put_record(out, p, r);
     }
     p
 }
 
 // How many nodes are of a kind.
-fn count_of(arena: &Arena, which: NodeType) -> u8
-    requires { Lends arena.now }
-    ensures { result ≡ length (of_kind (type_number which) (nodes_in arena.now)) }
+fn count_of(tree: Lent, which: NodeType) -> u8
+    ensures { result ≡ length (of_kind (type_number which) (nodes_in tree.entry.arena.now)) }
 {
     let mut m: u8 = 0;
-    for i in 0..usize::from(arena.counts.nodes) {
-        if arena.nodes.kind_at(i) == which {
+    for i in 0..usize::from(tree.arena.counts.nodes) {
+        if tree.arena.nodes.kind_at(i) == which {
             m += 1;
         }
     }
@@ -144,26 +141,31 @@ fn put_header(
     wire::put_u32(out, p5, f.worst)
 }
 
-fn put_tree(arena: &Arena, allowed: i32, farthest: u32, out: &mut [u8], at: usize) -> usize
-    requires { Lends arena.now }
-    ensures { Puts out.old at (bytes_of (nodes_in arena.now) allowed farthest) out.new result }
+fn put_tree(tree: Lent, allowed: i32, farthest: u32, out: &mut [u8], at: usize) -> usize
+    ensures { Puts out.old at (bytes_of (nodes_in tree.entry.arena.now) allowed farthest) out.new result }
 {
-    let terminals = count_of(arena, NodeType::Terminal);
-    let steiners = count_of(arena, NodeType::Steiner);
-    let f = measures::figures_of(arena, allowed, farthest);
-    let p = put_header(out, at, arena.counts.nodes as u8, terminals, steiners, f);
-    put_records(arena, out, p)
+    let terminals = count_of(tree, NodeType::Terminal);
+    let steiners = count_of(tree, NodeType::Steiner);
+    let f = measures::figures_of(tree, allowed, farthest);
+    let p = put_header(
+        out,
+        at,
+        tree.arena.counts.nodes as u8,
+        terminals,
+        steiners,
+        f,
+    );
+    put_records(tree, out, p)
 }
 
 // The bytes of a tree with these figures, if they fit whole.
 pub fn write_tree_bytes(
-    arena: &Arena,
+    tree: Lent,
     allowed: i32,
     farthest: u32,
     out: &mut [u8],
 ) -> Result<usize, Refusal>
-    requires { Lends arena.now }
-    ensures { Answers (bytes_of (nodes_in arena.now) allowed farthest) out.old result out.new }
+    ensures { Answers (bytes_of (nodes_in tree.entry.arena.now) allowed farthest) out.old result out.new }
 {
-    output::write_measured(out, |out| put_tree(arena, allowed, farthest, out, 0))
+    output::write_measured(out, |out| put_tree(tree, allowed, farthest, out, 0))
 }

@@ -1,7 +1,5 @@
 -- Samples of the definitions, each by computing both sides.
-use mathlib.Core.Path.{◌≡◌, refl}
-use mathlib.Core.List.{[], ◌∷◌}
-use lib.IntN.{pos, negsuc}
+use Rattle.std.proofs.Common.{◌≡◌, refl, [], ◌∷◌, pos, negsuc}
 use Rattle.wire.specs.Fields.{le, le32, le64, int32, twos32, le_bytes, int32_bytes, bits32}
 
 -- 0x04030201, and the last two bytes with 0 past the end

@@ -3,21 +3,14 @@
 // the end the bytes that fit are stored): so one writer both measures and writes.
 #![tactic(auto)]
 
-ghost use Rattle.std.specs.Prelude.{◌≡◌, [], ◌∷◌, ℕ, ◌+◌, ◌-◌, ◌<◌};
+ghost use Rattle.std.specs.Prelude.{◌≡◌, [], ◌∷◌, ℕ, ◌+◌, ◌<◌};
 ghost use Rattle.wire.specs.Fields.{byte, le16, le32, le64, int32, le_bytes, int32_bytes};
 ghost use Rattle.wire.specs.Puts.{Puts};
 
 // The last place: counting stops there.
 pub const LAST_PLACE: usize = usize::MAX;
 
-// How many places there are from a place on, of `size`.
-pub fn room(size: usize, at: usize) -> usize
-    ensures { result ≡ size - at }
-{
-    size.saturating_sub(at)
-}
-
-// ---- reading
+// ---- reading: one line for each type, which a caller names, over one reader of bytes
 
 pub fn byte_at(s: &[u8], at: usize) -> u8
     ensures { result ≡ byte s.now at }
@@ -66,7 +59,9 @@ pub fn i32_at(s: &[u8], at: usize) -> i32
     u32_at(s, at).cast_signed()
 }
 
-// ---- writing: each gives the place after what it wrote
+// ---- writing: each gives the place after what it wrote; of the fields one line for each type, over one writer of bytes. An output and the place in
+// it stay two parameters, here and above: a struct of both would hold a `&mut`, and each function would also have to promise that it still lends the
+// same buffer.
 
 pub fn put<T: Copy>(out: &mut [T], at: usize, b: T) -> usize
     ensures { Puts out.old at (b ∷ []) out.new result }

@@ -1,9 +1,8 @@
 -- `allowance::round_to_i32`: a value that is no NaN is rounded by the fields of its pattern.
-use Rattle.std.proofs.Common.{rules, ℕ, ◌^◌, ap, ◌∙◌}
-use lib.Dec.{leb}
+use Rattle.std.proofs.Common.{rules, ℕ, ◌^◌, ap, ◌∙◌, leb}
+use lib.Ieee.{binary64, to_bits}
 use mir.Syntax.{w32}
 use mir.ValLaws.{to_z-of_z}
-use lib.Ieee.{binary64, to_bits}
 use Rattle.allowance.proofs.Clamp.{clamped}
 use Rattle.allowance.proofs.Fields.{by_pattern}
 use Rattle.allowance.proofs.round_to_i32.Goals as goal

@@ -10,4 +10,4 @@ pub with_leaf-requires-clause-p_lt_nodes : goal.with_leaf-requires-clause-p_lt_n
 with_leaf-requires-clause-p_lt_nodes c = (c.requires.p_lt_nodes, room_for c.args.t.now _ c.steiner_number.ensures c.overfull.ensures c.if-overfull.false)
 
 pub returns : goal.returns
-returns c = past _ _ (full-one c.args.t.now _ c.steiner_number.ensures c.overfull.ensures) c.if-overfull.false (gives c.with_leaf.ensures)
+returns c = past _ _ (full-one c.args.t.now _ c.steiner_number.ensures c.overfull.ensures) c.if-overfull.false (gives _ c.with_leaf.ensures)

@@ -3,7 +3,7 @@ use Rattle.editing.proofs.Refusing.{ready, finds}
 use Rattle.editing.proofs.find_place.Goals as goal
 
 pub find_insertion_point-found-requires : goal.find_insertion_point-found-requires
-find_insertion_point-found-requires c = ready c.requires.0 _ c.requires.1 _ c.from-n.ensures
+find_insertion_point-found-requires c = ready c.args.t.now _ c.requires _ c.from-n.ensures
 
 pub returns : goal.returns
-returns c = finds c.requires.0 _ c.requires.1 _ c.from-n.ensures _ c.find_insertion_point-found.result c.find_insertion_point-found.ensures
+returns c = finds c.args.t.now _ c.requires _ c.from-n.ensures _ c.find_insertion_point-found.result c.find_insertion_point-found.ensures

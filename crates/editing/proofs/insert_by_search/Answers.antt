@@ -19,13 +19,13 @@ returns-then-any_invalid c =
     (past _ _ c.too_many.ensures c.if-too_many.false (stop BadKeepout _ c.any_invalid.ensures c.if-any_invalid.true))
 
 pub find_place-j-requires : goal.find_place-j-requires
-find_place-j-requires c = (c.requires.tabled, near c.outside.ensures c.if-outside.false)
+find_place-j-requires c = near c.outside.ensures c.if-outside.false
 
 pub join_found-requires : goal.join_found-requires
 join_found-requires c =
     record {
-      tabled = (c.requires.tabled, near c.outside.ensures c.if-outside.false);
-      fits = fits c.requires.tabled c.args.ks.now c.args.query _ c.find_place-j.ensures;
+      within = near c.outside.ensures c.if-outside.false;
+      fits = fits c.args.t.now c.args.ks.now c.args.query _ c.find_place-j.ensures;
     }
 
 pub returns : goal.returns
@@ -34,4 +34,4 @@ returns c =
     past _ _ c.outside.ensures c.if-outside.false
     (past _ _ c.too_many.ensures c.if-too_many.false
     (past _ _ c.any_invalid.ensures c.if-any_invalid.false
-    (found_is c.args.t.now c.args.ks.now c.args.query _ c.requires.limit_value c.find_place-j.ensures c.join_found.ensures)))
+    (found_is c.args.t.now c.args.ks.now c.args.query _ c.requires c.find_place-j.ensures c.join_found.ensures)))

@@ -1,7 +1,8 @@
 -- `editing::insert_node_on_branch`: 5, then 7 of either name, then 9, then what `splice_at` gives.
-use Rattle.std.proofs.Common.{◌≡◌, Err, sym, ◌∙◌, rules}
+use Rattle.std.proofs.Common.{◌≡◌, Err, sym, ap, ◌∙◌, rules}
 use Rattle.refusal.specs.declared.Refusal.TheVariants.{Outside}
 use Rattle.editing.specs.Edits.{insert_node_on_branch}
+use Rattle.editing.specs.Editing.{edit_of}
 use Rattle.tables.proofs.TableSizes.{of_all}
 use Rattle.editing.proofs.Refusing.{stop, past, near, lost, there, in_tree, no_name, with_name, next_name}
 use Rattle.editing.proofs.insert_node_on_branch.Goals as goal
@@ -32,11 +33,11 @@ returns-in_err-name c =
     past _ _ c.outside.ensures c.if-outside.false
     (there _ (of_all c.args.t.now _ c.find_node.ensures) c.in-Some.is
     (there _ (of_all c.args.t.now _ c.find_node-2.ensures) c.in-Some-find_node.is
-    (no_name c.args.t.now c.args.q _ _ c.args.kind _ (sym c.new_name.ensures ∙ c.in_err-name.was) h)))
+    (ap edit_of h ∙ no_name c.args.t.now c.args.q _ _ c.args.kind _ (sym c.new_name.ensures ∙ c.in_err-name.was))))
 
 pub splice_at-requires-clause-addable : goal.splice_at-requires-clause-addable
 splice_at-requires-clause-addable c =
-    record { tabled = c.requires; next = next_name c.args.t.now.arena.counts c.args.kind _ (sym c.new_name.ensures ∙ c.in_ok-name.was); within = near c.outside.ensures c.if-outside.false }
+    record { next = next_name c.args.t.now.arena.counts c.args.kind _ (sym c.new_name.ensures ∙ c.in_ok-name.was); within = near c.outside.ensures c.if-outside.false }
 
 pub returns : goal.returns
 unfolding insert_node_on_branch

@@ -15,11 +15,11 @@ unfolding insert_steiner_node
 returns-in_default c = past _ _ c.outside.ensures c.if-outside.false (lost _ c.steiner_parent.ensures c.in_default.is)
 
 pub attach_at-requires-clause-addable : goal.attach_at-requires-clause-addable
-attach_at-requires-clause-addable c = record { tabled = c.requires; next = refl; within = near c.outside.ensures c.if-outside.false }
+attach_at-requires-clause-addable c = record { next = refl; within = near c.outside.ensures c.if-outside.false }
 
 pub attach_at-requires-clause-p_lt_nodes : goal.attach_at-requires-clause-p_lt_nodes
 attach_at-requires-clause-p_lt_nodes c =
-    parent-low c.args.t.now 0 (some c.requires) (parent_name_of c.args.parent) c.steiner_parent.ensures c.in-Some.is
+    parent-low c.args.t.now 0 (some c.args.t.now) (parent_name_of c.args.parent) c.steiner_parent.ensures c.in-Some.is
 
 pub returns : goal.returns
 unfolding insert_steiner_node

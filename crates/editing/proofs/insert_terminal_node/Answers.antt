@@ -11,18 +11,18 @@ unfolding insert_terminal_node
 returns-then-outside c = stop Outside _ c.outside.ensures c.if-outside.true
 
 pub terminal_parent-requires : goal.terminal_parent-requires
-terminal_parent-requires c = (c.requires, near c.outside.ensures c.if-outside.false)
+terminal_parent-requires c = near c.outside.ensures c.if-outside.false
 
 pub returns-in_default : goal.returns-in_default
 unfolding insert_terminal_node
 returns-in_default c = past _ _ c.outside.ensures c.if-outside.false (lost _ c.terminal_parent.ensures c.in_default.is)
 
 pub attach_at-requires-clause-addable : goal.attach_at-requires-clause-addable
-attach_at-requires-clause-addable c = record { tabled = c.requires; next = refl; within = near c.outside.ensures c.if-outside.false }
+attach_at-requires-clause-addable c = record { next = refl; within = near c.outside.ensures c.if-outside.false }
 
 pub attach_at-requires-clause-p_lt_nodes : goal.attach_at-requires-clause-p_lt_nodes
 attach_at-requires-clause-p_lt_nodes c =
-    parent-low c.args.t.now _ (closest-low c.requires c.args.q) (parent_name_of c.args.parent) c.terminal_parent.ensures c.in-Some.is
+    parent-low c.args.t.now _ (closest-low c.args.t.now c.args.q) (parent_name_of c.args.parent) c.terminal_parent.ensures c.in-Some.is
 
 pub returns : goal.returns
 unfolding insert_terminal_node

@@ -12,4 +12,4 @@ pub with_terminal-requires-clause-room : goal.with_terminal-requires-clause-room
 with_terminal-requires-clause-room c = room c.args.t.now _ _ (sym c.is_full.ensures ∙ c.if-is_full.false)
 
 pub returns : goal.returns
-returns c = past _ _ (c.is_full.ensures ∙ full-join c.args.t.now (join_of c.args.j)) c.if-is_full.false (gives c.with_terminal.ensures)
+returns c = past _ _ (c.is_full.ensures ∙ full-join c.args.t.now (join_of c.args.j)) c.if-is_full.false (gives _ c.with_terminal.ensures)

@@ -1,6 +1,5 @@
 -- `editing::splice_at`: 8, then 10, or the tree with the new node.
-use Rattle.std.proofs.Common.{ap}
-use mathlib.Core.Bool.{not}
+use Rattle.std.proofs.Common.{ap, not}
 use Rattle.refusal.specs.declared.Refusal.TheVariants.{NotAChild, Full}
 use Rattle.editing.proofs.Refusing.{stop, past, full-one, room_for, gives, is_child_of_lem}
 use Rattle.editing.proofs.splice_at.Goals as goal
@@ -17,4 +16,4 @@ with_node_between-requires-clause-c_value c =
 pub returns : goal.returns
 returns c =
     past _ _ (ap not c.is_child.ensures) (ap not c.if-not-is_child.false)
-    (past _ _ (full-one c.args.t.now _ c.steiner_number.ensures c.overfull.ensures) c.if-overfull.false (gives c.with_node_between.ensures))
+    (past _ _ (full-one c.args.t.now _ c.steiner_number.ensures c.overfull.ensures) c.if-overfull.false (gives _ c.with_node_between.ensures))

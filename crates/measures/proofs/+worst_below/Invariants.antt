@@ -10,7 +10,7 @@ abbrev pub decreases-worst_below : goal.decreases-worst_below
 decreases-worst_below l = l.left
 
 abbrev pub invariant-loop-child : goal.invariant-loop-child
-invariant-loop-child l = Longest (nodes_in l.arena) (column 1 l.arena.links) l.arena.counts.nodes l.left l.i l.child l.longest
+invariant-loop-child l = Longest (nodes_in l.tree.arena.now) (column 1 l.tree.arena.now.links) l.tree.arena.now.counts.nodes l.left l.i l.child l.longest
 
 abbrev pub decreases-loop-child : goal.decreases-loop-child
-decreases-loop-child l = length (chain_at (column 1 l.arena.links) l.child)
+decreases-loop-child l = length (chain_at (column 1 l.tree.arena.now.links) l.child)

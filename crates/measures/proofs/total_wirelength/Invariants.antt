@@ -4,4 +4,4 @@ use Rattle.measures.proofs.Summed.{Summed}
 use Rattle.measures.proofs.total_wirelength.Given as goal
 
 abbrev pub invariant-loop-i : goal.invariant-loop-i
-invariant-loop-i l = Summed (nodes_in l.arena) l.arena.counts.nodes l.i l.sum
+invariant-loop-i l = Summed (nodes_in l.tree.arena.now) l.tree.arena.now.counts.nodes l.i l.sum

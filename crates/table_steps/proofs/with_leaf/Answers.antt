@@ -1,28 +1,37 @@
 -- `table_steps::with_leaf`: the table's tree, with one node more.
-use Rattle.std.proofs.Common.{arith, refl}
+use Rattle.std.proofs.Common.{ℕ, ◌<◌, length, arith, refl}
+use Rattle.geometry.specs.declared.Point.{Point}
+use Rattle.tree.specs.declared.NodeName.{NodeName}
 use Rattle.tree.specs.Memory.{name_in}
 use Rattle.tree.specs.Route.{attached}
 use Rattle.tree.proofs.Forming.{formed-attached}
-use Rattle.hand_inserts.specs.Insert.{Below}
-use Rattle.tables.specs.Table.{table_tree}
+use Rattle.joining.specs.declared.Arena.{Arena}
+use Rattle.joining.specs.Standing.{Holding, Standing, Became}
+use Rattle.hand_inserts.specs.Insert.{Below, LeafInserted}
+use Rattle.tables.specs.declared.Table.{Table}
+use Rattle.tables.specs.Table.{table_tree, tabled}
 use Rattle.tables.proofs.TableSizes.{size}
-use Rattle.table_steps.proofs.Stepping.{ready, stepped}
+use Rattle.table_steps.specs.Steps.{Addable, Room, steiner_in}
+use Rattle.table_steps.proofs.Stepping.{Steps, ready, stepping}
 use Rattle.table_steps.proofs.Sizes.{one_leaf, number-after}
 use Rattle.table_steps.proofs.with_leaf.Goals as goal
 
+module _ (t : Table) (n : NodeName) (q : Point) (p : ℕ) (v : Addable t (name_in n) q) (r : (p < t.arena.counts.nodes) × Room t 1 (steiner_in (name_in n))) where
+  before : Holding (Standing (Below (name_in n) p) 1 q) t.arena
+  before = ready t (Below (name_in n) p) 1 q (omega (arith, r.0, size t), v.next) r.1.0 v.within
+
+  after : {a : Arena} → Became (LeafInserted (name_in n) q p) t.arena a → Steps (λ x. attached x (name_in n) q p) t a
+  after {a} g =
+      let h : p < length (table_tree t).nodes = omega (arith, r.0, size t) in
+      stepping t (Below (name_in n) p) (h, v.next) (λ x. attached x (name_in n) q p) (formed-attached (table_tree t) (tabled t).formed (name_in n) v.next q v.within p h)
+      (omega (arith, one_leaf (table_tree t) (tabled t).formed (name_in n) q p h, size t, r.1.0))
+      (number-after (table_tree t) (tabled t).formed (name_in n) v.next (tabled t).steiners r.1.1) a g refl refl refl
+
 pub insert_leaf-requires : goal.insert_leaf-requires
-insert_leaf-requires c =
-    let v = c.requires.addable in
-    let r = c.requires.p_lt_nodes in
-    ready v.tabled (Below (name_in c.args.name) c.args.p.0) 1 _ (omega (arith, r.0, size c.args.t.now), v.next) r.1.0 v.within
+insert_leaf-requires c = before c.args.t.now c.args.name c.args.q c.args.p.0 c.requires.addable c.requires.p_lt_nodes
+
+pub invariant_of-t : goal.invariant_of-t
+invariant_of-t c = record { stands = (after c.args.t.now c.args.name c.args.q c.args.p.0 c.requires.addable c.requires.p_lt_nodes c.insert_leaf.ensures).held }
 
 pub returns : goal.returns
-returns c =
-    let a = c.args in
-    let t = c.args.t.now in
-    let v = c.requires.addable in
-    let r = c.requires.p_lt_nodes in
-    stepped v.tabled (Below (name_in a.name) a.p.0) (omega (arith, r.0, size t), v.next) (λ x. attached x (name_in a.name) a.q a.p.0)
-    (formed-attached (table_tree t) v.tabled.formed (name_in a.name) v.next a.q v.within a.p.0 (omega (arith, r.0, size t)))
-    (omega (arith, one_leaf (table_tree t) v.tabled.formed (name_in a.name) a.q a.p.0 (omega (arith, r.0, size t)), size t, r.1.0))
-    (number-after (table_tree t) v.tabled.formed (name_in a.name) v.next v.tabled.steiners r.1.1) _ c.insert_leaf.ensures refl refl refl (refl, refl)
+returns c = (after c.args.t.now c.args.name c.args.q c.args.p.0 c.requires.addable c.requires.p_lt_nodes c.insert_leaf.ensures).is _

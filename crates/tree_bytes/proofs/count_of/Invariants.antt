@@ -5,4 +5,4 @@ use Rattle.tree_bytes.proofs.Counting.{Counts}
 use Rattle.tree_bytes.proofs.count_of.Given as goal
 
 abbrev pub invariant-loop-i : goal.invariant-loop-i
-invariant-loop-i l = Counts (nodes_in l.arena) l.arena.counts.nodes (type_number l.which) l.i l.m
+invariant-loop-i l = Counts (nodes_in l.tree.arena.now) l.tree.arena.now.counts.nodes (type_number l.which) l.i l.m

@@ -10,8 +10,8 @@ use Rattle.tree_bytes.proofs.place.Given as goal
 
 abbrev pub invariant-loop-sibling : goal.invariant-loop-sibling
 invariant-loop-sibling l =
-    let ns = nodes_in l.arena in
-    Steps (column 1 l.arena.links) l.arena.counts.nodes (place_under ns l.i (node_at ns l.i).parent) l.sibling l.steps
+    let ns = nodes_in l.tree.arena.now in
+    Steps (column 1 l.tree.arena.now.links) l.tree.arena.now.counts.nodes (place_under ns l.i (node_at ns l.i).parent) l.sibling l.steps
 
 abbrev pub decreases-loop-sibling : goal.decreases-loop-sibling
-decreases-loop-sibling l = length (chain_at (column 1 l.arena.links) l.sibling)
+decreases-loop-sibling l = length (chain_at (column 1 l.tree.arena.now.links) l.sibling)

@@ -5,4 +5,4 @@ use Rattle.global_router.proofs.Reading.{named_is}
 use Rattle.global_router.proofs.GlobalRoutingTree.find_node.Goals as goal
 
 pub returns : goal.returns
-returns c = ap looked_up (named_is c.to_table-t.result c.to_table-t.ensures.is _ c.find_node.result c.find_node.ensures)
+returns c = ap looked_up (named_is c.to_table-t.result c.to_table-t.ensures _ c.find_node.result c.find_node.ensures)

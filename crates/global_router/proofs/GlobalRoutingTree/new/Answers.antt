@@ -11,4 +11,4 @@ pub source_alone-t-requires : goal.source_alone-t-requires
 source_alone-t-requires c = within _ (sym c.outside-outside.ensures ∙ c.if-outside.false)
 
 pub returns : goal.returns
-returns c = new_given _ (sym c.outside-outside.ensures ∙ c.if-outside.false) _ (c.from_table-tree.ensures.is ∙ c.source_alone-t.ensures.is) c.from_table-tree.ensures.stored
+returns c = new_given _ (sym c.outside-outside.ensures ∙ c.if-outside.false) c.from_table-tree.result (c.from_table-tree.ensures ∙ c.source_alone-t.ensures)
