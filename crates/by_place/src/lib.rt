@@ -51,11 +51,11 @@ pub fn figures(job: &[u8]) -> Called
     let status = exports::ferruleslate_figures(job, lent, &mut farthest, &mut total, &mut worst);
     let value = *lent;
     Called {
-        status: status,
+        status,
         allowed: value,
-        farthest: farthest,
-        total: total,
-        worst: worst,
+        farthest,
+        total,
+        worst,
     }
 }
 

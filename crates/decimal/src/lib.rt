@@ -69,12 +69,9 @@ fn put_digits(out: &mut [u8], at: usize, m: u32, count: usize) -> usize
 fn count_digits(m: u32) -> usize
     ensures { Sized m result }
 {
-    for n in 1..MOST_DIGITS {
-        if m < power(n) {
-            return n;
-        }
-    }
-    MOST_DIGITS
+    (1..MOST_DIGITS)
+        .find(|n| m < power(*n))
+        .unwrap_or(MOST_DIGITS)
 }
 
 // m in decimal. (Named by the type, as wire's `put_u32`: of a u32 and of an i32 the text is told by two definitions.)

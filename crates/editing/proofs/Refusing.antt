@@ -189,29 +189,32 @@ module _ (t : Table) where
   readable : Kept (table_tree t).nodes c.rows.xs c.rows.ys c.rows.path c.last c.prev
   readable = kept (table_tree t) v.formed (few t) most_nodes c v.sized v.keeps (few t)
 
-  module _ (a : Query) (near : Within reach a.point) (n : ℕ) (e : n ≡ t.arena.counts.nodes) where
-    pub ready : Ready n a c.rows.xs c.rows.ys c.rows.path c.last c.prev
-    ready =
-        record {
-          nodes = (table_tree t).nodes;
-          size = size t ∙ sym e;
-          small = omega (arith, v.few, e);
-          kept = readable;
-          tree = walks (table_tree t) v.formed (few t);
-          within = near;
-        }
+  -- the columns as the arena lends them
+  module _ {xs ys : List ℤ} {path last prev : List ℕ} (ex : xs ≡ c.rows.xs) (ey : ys ≡ c.rows.ys) (ep : path ≡ c.rows.path) (el : last ≡ c.last) (ev : prev ≡ c.prev) where
+    lent : Kept (table_tree t).nodes xs ys path last prev
+    lent = search (readable, ex, ey, ep, el, ev)
 
-    pub finds : (ks : List ℤ) (r : F.Found) → Joins n a c.rows.xs c.rows.ys c.rows.path c.last c.prev ks r
-        → join_of r.join ≡ T.find (T.blocked (keepouts_of ks)) (table_tree t).nodes a.limit a.allowed a.point
-    finds ks r h = (h (table_tree t).nodes (size t ∙ sym e) (walks (table_tree t) v.formed (few t)) readable).join
+    module _ (a : Query) (near : Within reach a.point) (n : ℕ) (e : n ≡ t.arena.counts.nodes) where
+      pub ready : Ready n a xs ys path last prev
+      ready =
+          record {
+            nodes = (table_tree t).nodes;
+            size = size t ∙ sym e;
+            small = omega (arith, v.few, e);
+            kept = lent;
+            tree = walks (table_tree t) v.formed (few t);
+            within = near;
+          }
 
--- the edit with the place that the search finds, with the tree's own limit
-pub found_is : (t : Table) (ks : List ℤ) (a : Query) (j : T.Join) {y : D.Edit} → a.limit ≡ t.limit
-    → j ≡ T.find (T.blocked (keepouts_of ks)) (table_tree t).nodes a.limit a.allowed a.point → y ≡ join_found (table_tree t) a.point j
-    → y ≡ join_found (table_tree t) a.point (T.find (T.blocked (keepouts_of ks)) (table_tree t).nodes t.limit a.allowed a.point)
-found_is t ks a j l e v =
-    v ∙ ap (join_found (table_tree t) a.point) (e ∙ ap (λ (l : ℕ). T.find (T.blocked (keepouts_of ks)) (table_tree t).nodes l a.allowed a.point) l)
+      pub finds : (ks : List ℤ) (r : F.Found) → Joins n a xs ys path last prev ks r
+          → join_of r.join ≡ T.find (T.blocked (keepouts_of ks)) (table_tree t).nodes a.limit a.allowed a.point
+      finds ks r h = (h (table_tree t).nodes (size t ∙ sym e) (walks (table_tree t) v.formed (few t)) lent).join
 
--- the place that the search finds is in the tree
-pub fits : (t : Table) (ks : List ℤ) (a : Query) (j : T.Join) → j ≡ T.find (T.blocked (keepouts_of ks)) (table_tree t).nodes a.limit a.allowed a.point → Fits (table_tree t).nodes j
-fits t ks a j e = subst (Fits (table_tree t).nodes) (sym e) (find-fits (table_tree t).nodes (tabled t).formed.linked (T.blocked (keepouts_of ks)) a.limit a.allowed a.point)
+-- the edit with the place that the search finds, z as it is read back
+pub found_is : (t : Table) (ks : List ℤ) (q : Point) {x z : ℤ} (j : T.Join) {y : D.Edit} → z ≡ x → j ≡ T.find (T.blocked (keepouts_of ks)) (table_tree t).nodes t.limit z q
+    → y ≡ join_found (table_tree t) q j → y ≡ join_found (table_tree t) q (T.find (T.blocked (keepouts_of ks)) (table_tree t).nodes t.limit x q)
+found_is t ks q j h e v = v ∙ ap (join_found (table_tree t) q) (e ∙ ap (λ (z : ℤ). T.find (T.blocked (keepouts_of ks)) (table_tree t).nodes t.limit z q) h)
+
+-- it is in the tree
+pub fits : (t : Table) (ks : List ℤ) (q : Point) (x : ℤ) (j : T.Join) → j ≡ T.find (T.blocked (keepouts_of ks)) (table_tree t).nodes t.limit x q → Fits (table_tree t).nodes j
+fits t ks q x j e = subst (Fits (table_tree t).nodes) (sym e) (find-fits (table_tree t).nodes (tabled t).formed.linked (T.blocked (keepouts_of ks)) t.limit x q)

@@ -20,7 +20,7 @@ ghost use Rattle.job.specs.Job.{too_many_keepouts, invalid_keepout};
 use geometry::Point;
 use joining::Counts;
 use refusal::Refusal;
-use search::{Join, LinkColumns, NodeColumns, Query};
+use search::{Join, Query};
 use tables::Table;
 use tree::{NodeIndex, NodeName, NodeType, SteinerNumber};
 
@@ -36,13 +36,8 @@ fn overfull(n: u16, more: u16, number: Option<SteinerNumber>) -> bool
     requires { (n ≤ most_nodes) × (more ≤ 2) }
     ensures { result ≡ overfull n more number }
 {
-    if usize::from(n + more) > tree::MOST_NODES {
-        return true;
-    }
-    match number {
-        None => false,
-        Some(k) => usize::from(k.0) > tree::MOST_NODES,
-    }
+    usize::from(n + more) > tree::MOST_NODES
+        || number.is_some_and(|k| usize::from(k.0) > tree::MOST_NODES)
 }
 
 // ---- what the tree answers
@@ -71,27 +66,23 @@ fn terminal_parent(t: &Table, q: Point, parent: Option<NodeName>) -> Option<Node
     ensures { lookup_of result ≡ parent_node (table_tree t.now) (closest (table_tree t.now).nodes q (length (table_tree t.now).nodes)) (parent_name_of parent) }
 {
     match parent {
-        None => Some(nearest::closest_node(&t.arena.nodes.points, t.arena.counts.nodes, q)),
+        None => Some(nearest::closest_node(&t.arena, q)),
         Some(name) => t.find_node(name),
     }
 }
 
-// Where the search has the query's point join.
-fn find_place(t: &Table, query: Query, ks: &[i32]) -> Join
-    requires { Within reach query.point }
-    ensures { join_of result ≡ find (blocked (keepouts_of ks.now)) (table_tree t.now).nodes query.limit query.allowed query.point }
+// Where the search has a point join, with the tree's own limit.
+fn find_place(t: &Table, q: Point, allowed: i32, ks: &[i32]) -> Join
+    requires { Within reach q }
+    ensures { join_of result ≡ find (blocked (keepouts_of ks.now)) (table_tree t.now).nodes t.now.limit allowed q }
 {
-    let at = &t.arena.nodes.points[..];
-    let to = &t.arena.links[..];
-    let nodes = NodeColumns {
-        xs: &at[0..joining::YS],
-        ys: &at[joining::YS..joining::POINTS],
-        path: &t.arena.nodes.path,
+    let query = Query {
+        point: q,
+        limit: t.limit,
+        allowed,
     };
-    let links = LinkColumns {
-        last: &to[0..joining::PREVS],
-        prev: &to[joining::PREVS..joining::NEXTS],
-    };
+    let nodes = t.arena.nodes.columns();
+    let links = t.arena.link_columns();
     let n = usize::from(t.arena.counts.nodes);
     let found = search::find_insertion_point(n, query, nodes, links, ks);
     found.join
@@ -242,12 +233,11 @@ pub fn insert_node_on_branch(
     splice_at(t, name, q, p, c)
 }
 
-// A terminal at the query's point, where the search finds. Refusals, in this order: 5, 2, 6, 10.
-pub fn insert_by_search(t: &Table, query: Query, ks: &[i32]) -> Result<Insertion, Refusal>
-    requires { query.limit ≡ t.now.limit }
-    ensures { Edits (insert_terminal_with_constraints (table_tree t.now) query.point query.allowed (keepouts_of ks.now)) result }
+// A terminal where the search finds. Refusals, in this order: 5, 2, 6, 10.
+pub fn insert_by_search(t: &Table, q: Point, allowed: i32, ks: &[i32]) -> Result<Insertion, Refusal>
+    ensures { Edits (insert_terminal_with_constraints (table_tree t.now) q allowed (keepouts_of ks.now)) result }
 {
-    if job::outside(query.point) {
+    if job::outside(q) {
         return Err(Refusal::Outside);
     }
     if too_many(ks) {
@@ -256,8 +246,8 @@ pub fn insert_by_search(t: &Table, query: Query, ks: &[i32]) -> Result<Insertion
     if any_invalid(ks) {
         return Err(Refusal::BadKeepout);
     }
-    let j = find_place(t, query, ks);
-    join_found(t, query.point, j)
+    let j = find_place(t, q, allowed, ks);
+    join_found(t, q, j)
 }
 
 // ---- the tests of the keepouts that an edit is given: lower x, upper x, lower y, upper y of each
@@ -272,10 +262,6 @@ pub fn too_many(ks: &[i32]) -> bool
 pub fn any_invalid(ks: &[i32]) -> bool
     ensures { result ≡ any_of invalid_keepout (keepouts_of ks.now) }
 {
-    for k in ks.chunks_exact(tree::KEEPOUT_BOUNDS) {
-        if job::invalid_keepout(search::keepout_at(k, 0)) {
-            return true;
-        }
-    }
-    false
+    ks.chunks_exact(tree::KEEPOUT_BOUNDS)
+        .any(|k| job::invalid_keepout(search::keepout_at(k, 0)))
 }

@@ -24,11 +24,11 @@ pub use from_job::route;
 use geometry::{Point, Rectangle};
 use joining::{Arena, Counts};
 use refusal::Refusal;
-use search::Query;
 use tables::Table;
 use tree::{NodeIndex, NodeName, NodeType, RoutingNode, SteinerNumber, TerminalNumber};
 
-// Children are links: a node's last child, and the siblings before and after a node, each in a column of their own.
+// Children are links: a node's last child, and the siblings before and after a node, each in a column of their own. (Arrays and a count: there is no
+// heap.)
 #[derive(Clone, Copy)]
 pub struct GlobalRoutingTree {
     nodes: [RoutingNode; tree::MOST_NODES],
@@ -101,7 +101,7 @@ impl GlobalRoutingTree {
         Ok(tree)
     }
 
-    // ---- what is read of a tree
+    // ---- what is read of a tree: the Rust's names, here and below, each one call over a table
 
     // The total: d to the parent, summed over nodes.
     pub fn calculate_total_wirelength(&self) -> u32
@@ -181,7 +181,7 @@ impl GlobalRoutingTree {
         self.farthest
     }
 
-    // ---- edits: after a refusal the tree is as before
+    // ---- edits: after a refusal the tree is as before. Each is the Rust's, a call of editing between a table and the tree that it becomes.
 
     // Keeps what an edit of the tree's table gives.
     fn finish(&mut self, edit: Result<Insertion, Refusal>) -> Result<NodeName, Refusal>
@@ -243,13 +243,8 @@ impl GlobalRoutingTree {
     ) -> Result<NodeName, Refusal>
         ensures { EditedTo (insert_terminal_with_constraints (tree_of self.old) «point» allowed_wirelength (keepouts_of «keepouts».now)) self.old result self.new }
     {
-        let query = Query {
-            point,
-            limit: self.worst_wirelength,
-            allowed: allowed_wirelength,
-        };
         let t = self.to_table();
-        let edit = editing::insert_by_search(&t, query, keepouts);
+        let edit = editing::insert_by_search(&t, point, allowed_wirelength, keepouts);
         self.finish(edit)
     }
 

@@ -55,13 +55,13 @@ most : (x : T.Join) → new_nodes x ≤ 2
 most (T.onto p) = omega arith
 most (T.split p d) = omega arith
 
-module _ {k : Counts} {c : Store} {a : Query} (v : Insertable Search a k c) (w : ℕ) (ew : w ≡ k.nodes) where
-  pub searchable : Searchable w a c
+module _ {k : Counts} {c : Store} {a : Query} (v : Insertable Search a k c) where
+  pub searchable : Searchable k.nodes a c
   searchable =
       record {
         ready = record {
           nodes = v.stands.tree.nodes;
-          size = v.stands.stores.size ∙ sym ew;
+          size = v.stands.stores.size;
           small = omega (arith, v.small);
           kept = kept v.stands.tree v.stands.formed (few v) _ (columns_of c) (sized-columns v.stands.sized) v.stands.stores.keeps (omega (arith, v.stands.stores.size, v.room));
           tree = walks v.stands.tree v.stands.formed (few v);
@@ -73,12 +73,12 @@ module _ {k : Counts} {c : Store} {a : Query} (v : Insertable Search a k c) (w :
         sums = v.stands.when.sums;
       }
 
-  module _ {ks : List ℤ} (r : Found) (found : FoundIn w a c ks r) where
+  module _ {ks : List ℤ} (r : Found) (found : FoundIn k.nodes a c ks r) where
     found_is : (t : Tree) → WellFormed t → QueryOf a t → Stores t k c → T.find (T.blocked (keepouts_of ks)) t.nodes t.limit t.allowed a.point ≡ join_of r.join
     found_is t f query s =
         let small : length t.nodes ≤ most_nodes = omega (arith, s.size, v.small) in
         (λ i. T.find (T.blocked (keepouts_of ks)) t.nodes (query.limit i) (query.allowed i) a.point)
-        ∙ sym (found t.nodes (s.size ∙ sym ew) (walks t f small) (kept t f small _ (columns_of c) (sized-columns v.stands.sized) s.keeps (omega (arith, s.size, v.room)))).join
+        ∙ sym (found t.nodes s.size (walks t f small) (kept t f small _ (columns_of c) (sized-columns v.stands.sized) s.keeps (omega (arith, s.size, v.room)))).join
 
     fits : (t : Tree) → WellFormed t → QueryOf a t → Stores t k c → At r.join t
     fits t f query s = subst (Fits t.nodes) (found_is t f query s) (find-fits t.nodes f.linked (T.blocked (keepouts_of ks)) t.limit t.allowed a.point)

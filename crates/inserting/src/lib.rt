@@ -9,7 +9,7 @@ ghost use Rattle.inserting.specs.Route.{first_counts, query_at, Begun, SourceAlo
 
 use geometry::Point;
 use joining::{Arena, Counts, Row};
-use search::{Found, LinkColumns, NodeColumns, Query};
+use search::{Found, Query};
 use tree::{NodeIndex, NodeName, SteinerNumber, TerminalNumber};
 
 // How a terminal finds its place: at the closest node, or by the search. Two ways that take the same, so no Option.
@@ -27,7 +27,7 @@ fn insert_simple(arena: &mut Arena, q: Point)
     ensures { Became (InsertedSimple q) arena.old arena.new }
 {
     let k = arena.counts;
-    let p = nearest::closest_node(&arena.nodes.points, k.nodes, q);
+    let p = nearest::closest_node(arena, q);
     let row = Row {
         point: q,
         path: tree::UNMEASURED,
@@ -38,24 +38,16 @@ fn insert_simple(arena: &mut Arena, q: Point)
     arena.counts = k.one_more();
 }
 
-// Where the search over the first n nodes, which are the arena's own, has the query's point join.
-fn find(arena: &Arena, n: usize, a: Query, ks: &[i32]) -> Found
-    requires { Searchable n a (stored arena.now) }
-    ensures { FoundIn n a (stored arena.now) ks.now result }
+// Where the search has the query's point join.
+fn find(arena: &Arena, a: Query, ks: &[i32]) -> Found
+    requires { Searchable arena.now.counts.nodes a (stored arena.now) }
+    ensures { FoundIn arena.now.counts.nodes a (stored arena.now) ks.now result }
 {
-    let at = &arena.nodes.points[..];
-    let of = &arena.nodes.marks[..];
-    let to = &arena.links[..];
-    let nodes = NodeColumns {
-        xs: &at[0..joining::YS],
-        ys: &at[joining::YS..joining::POINTS],
-        path: &arena.nodes.path,
-    };
-    let links = LinkColumns {
-        last: &to[0..joining::PREVS],
-        prev: &to[joining::PREVS..joining::NEXTS],
-    };
-    nearest::find_join(n, a, nodes, &of[0..joining::KINDS], links, ks)
+    let n = usize::from(arena.counts.nodes);
+    let nodes = arena.nodes.columns();
+    let marks = &arena.nodes.marks[..];
+    let parents = &marks[0..joining::KINDS];
+    nearest::find_join(n, a, nodes, parents, arena.link_columns(), ks)
 }
 
 // A terminal at the query's point joins where the search finds.
@@ -63,12 +55,12 @@ fn insert_by_search(arena: &mut Arena, a: Query, ks: &[i32])
     requires { Holding (Insertable Way.Search a) arena.old }
     ensures { Became (Inserted Way.Search ks.now a) arena.old arena.new }
 {
-    let n = usize::from(arena.counts.nodes);
-    let f = find(arena, n, a, ks);
+    let f = find(arena, a, ks);
     arena.join(a.point, f.join);
 }
 
-// The next terminal joins, by one way or the other.
+// The next terminal joins, by one way or the other. (An enum and no closure: each way asks for something else of the arena, and the contract names the
+// way.)
 fn insert_terminal(arena: &mut Arena, way: Way, a: Query, ks: &[i32])
     requires { Holding (Insertable way a) arena.old }
     ensures { Became (Inserted way ks.now a) arena.old arena.new }

@@ -15,10 +15,11 @@ ghost use Rattle.joining.specs.Buffers.{column, Put, read_in, ReadsAt, links_in,
 ghost use Rattle.joining.specs.Standing.{Standing, At, Joined, Holding, Became};
 
 use geometry::Point;
-use search::{Join, NodeColumns, NodeView};
+use search::{Join, LinkColumns, NodeColumns, NodeView};
 use tree::{NodeIndex, NodeName, NodeType, SteinerNumber, TerminalNumber};
 
-// The coordinates: x, then y.
+// Columns of one type stand in one array, so that one function and one law serve them (`entry_at::<K>`, `put::<K>`, proofs/Blocks.antt): as fields each
+// would need its own. The coordinates: x, then y.
 pub const POINTS: usize = 2 * tree::MOST_NODES;
 
 pub const YS: usize = tree::MOST_NODES;
@@ -104,7 +105,8 @@ impl Counts {
     }
 }
 
-// ---- three columns of numbers: the marks, or the links
+// ---- three columns of numbers: the marks, or the links. That an index is in them is asked, here and below, and no type says it: a NodeIndex is of any
+// tree, and a usize is a loop's.
 
 // What column K has of node i.
 fn entry_at<const K: usize>(columns: &[u16; MARKS], i: usize) -> u16
@@ -124,7 +126,9 @@ pub fn link_to(i: Option<NodeIndex>) -> u16
     }
 }
 
-// A node's last child, and the sibling before it: columns 0 and 1, by names that tell them apart where they are read.
+// A node's last child, and the sibling before it: columns 0 and 1, by names that tell them apart where they are read. (`LinkColumns` has the same two
+// of a column of any length: there each reader would have to show the length and have a NodeIndex at hand; an array's length is its type's, and an index
+// here may be a loop's.)
 pub fn last_child(links: &[u16; LINKS], i: usize) -> Option<NodeIndex>
     requires { i < most_nodes }
     ensures { result ≡ index_from (get_or (column 0 links.now) i 0) }
@@ -143,6 +147,20 @@ pub fn child_before(links: &[u16; LINKS], i: usize) -> Option<NodeIndex>
 // ---- rows
 
 impl NodeRows {
+    // What the search reads of the nodes.
+    pub fn columns(&self) -> NodeColumns<'_>
+        ensures xs { result.xs.now ≡ column 0 self.now.points }
+        ensures ys { result.ys.now ≡ column 1 self.now.points }
+        ensures path { result.path.now ≡ self.now.path }
+    {
+        let all = &self.points[..];
+        NodeColumns {
+            xs: &all[0..YS],
+            ys: &all[YS..POINTS],
+            path: &self.path,
+        }
+    }
+
     pub fn point_at(&self, i: usize) -> Point
         requires { i < most_nodes }
         ensures { result ≡ point_at (column 0 self.now.points) (column 1 self.now.points) i }
@@ -191,13 +209,7 @@ impl NodeRows {
         ensures near { Within reach result.point }
         ensures short { result.path ≤ longest_path }
     {
-        let all = &self.points[..];
-        let columns = NodeColumns {
-            xs: &all[0..YS],
-            ys: &all[YS..POINTS],
-            path: &self.path,
-        };
-        search::view_at(columns, p)
+        search::view_at(self.columns(), p)
     }
 
     // The row of a terminal at q below p.
@@ -358,6 +370,18 @@ fn splice(links: &mut [u16; LINKS], p: NodeIndex, c: NodeIndex, i: NodeIndex, s:
 // ---- joining: what holds in an arena before a step differs from step to step, so contracts say it, and not the type
 
 impl Arena {
+    // What the search reads of the links.
+    pub fn link_columns(&self) -> LinkColumns<'_>
+        ensures last { result.last.now ≡ column 0 self.now.links }
+        ensures prev { result.prev.now ≡ column 1 self.now.links }
+    {
+        let all = &self.links[..];
+        LinkColumns {
+            last: &all[0..PREVS],
+            prev: &all[PREVS..NEXTS],
+        }
+    }
+
     // The node n, with no children, goes last among those of its row's parent.
     pub fn attach(&mut self, n: NodeIndex, row: Row)
         requires { Attachable (stored self.old) n.0 row.parent.0 }

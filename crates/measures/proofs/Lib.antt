@@ -1,6 +1,7 @@
 pub mod Reading
 pub mod Lending
 pub mod Children
+pub mod Stepping
 pub mod Levels
 pub mod Summed
 pub mod Longest

@@ -1,5 +1,5 @@
 -- The loop over a node's children, from the last to the first: the longest run so far and the longest of those that are left make the longest of all.
-use Rattle.std.proofs.Common.{ℕ, zero, suc, ◌+◌, ◌-◌, ◌*◌, ◌≤◌, ◌<◌, max, ◌≡◌, refl, ap, sym, ◌∙◌, List, [], ◌∷◌, ◌++◌, reverse, arith, length, get_or, Option, None, Some}
+use Rattle.std.proofs.Common.{ℕ, zero, suc, ◌+◌, ◌-◌, ◌*◌, ◌≤◌, ◌<◌, max, ◌≡◌, refl, ap, sym, subst, ◌∙◌, inl, inr, List, [], ◌∷◌, ◌++◌, reverse, arith, length, get_or, Option}
 use mathlib.Core.List.{reverse-cons}
 use Rattle.geometry.specs.declared.Point.{Point}
 use Rattle.geometry.specs.Geometry.{dist}
@@ -11,8 +11,9 @@ use Rattle.std.specs.Ordering.{ord_max, nat_cmp}
 use Rattle.std.proofs.lemmas.Bool.Decides.{nat_tests}
 use Rattle.tree.specs.declared.NodeIndex.{NodeIndex}
 use Rattle.joining.specs.Store.{Columns, index_from}
-use Rattle.measures.specs.Children.{chain_at, Siblings}
-use Rattle.measures.proofs.Children.{siblings_of, children_read, chain-none, child_low, siblings_before, chain_step}
+use Rattle.search.specs.Columns.{Has}
+use Rattle.measures.specs.Children.{chain_at}
+use Rattle.measures.proofs.Children.{siblings_of, children_read}
 use Rattle.tree.specs.Memory.{point_at}
 use Rattle.measures.proofs.Reading.{Read, point_read, near_read}
 use Rattle.measures.proofs.Summed.{near_by}
@@ -45,54 +46,56 @@ unfolding worst_below
 worst-none ns zero i e = refl
 worst-none ns (suc left) i e = absurd (omega arith)
 
-pub record Longest (ns : List Node) (prev : List ℕ) (n left i : ℕ) (child : Option NodeIndex) (best : ℕ) : Type 0 where
+-- over the children that are left
+pub record Longest (ns : List Node) (n left i : ℕ) (rest : List ℕ) (best : ℕ) : Type 0 where
   pub some : left ≡ 0 → ⊥
   pub small : best ≤ across * left
-  pub siblings : Siblings prev n child
-  pub is : max best (greatest (run_by ns left i) (chain_at prev child)) ≡ worst_below ns left i
+  pub below : (x : ℕ) → Has x rest → x < n
+  pub is : max best (greatest (run_by ns left i) rest) ≡ worst_below ns left i
 
 module _ (ns : List Node) (c : Columns) (n left i : ℕ) (v : Read ns c n) where
-  pub starts : {k : ℕ} {child : Option NodeIndex} → k ≡ i → child ≡ index_from (get_or c.last k 0) → i < n → (left ≡ 0 → ⊥) → Longest ns c.prev n left i child 0
+  pub starts : {k : ℕ} {child : Option NodeIndex} → k ≡ i → child ≡ index_from (get_or c.last k 0) → i < n → (left ≡ 0 → ⊥) → Longest ns n left i (chain_at c.prev child) 0
   starts {k} e ex h f =
       let in_n : k < n = omega arith in
       let kids = children_read v k in_n ex ∙ ap (λ (x : ℕ). reverse (node_at ns x).children) e in
       record {
         some = f;
         small = omega arith;
-        siblings = siblings_of v k in_n ex;
+        below = (siblings_of v k in_n ex).below;
         is = omega (arith, ap (greatest (run_by ns left i)) kids, greatest-reverse (run_by ns left i) (node_at ns i).children, worst_step ns left i f);
       }
 
-  module _ {child : Option NodeIndex} {best : ℕ} (l : Longest ns c.prev n left i child best) where
-    pub stops : child ≡ None → best ≡ worst_below ns left i
+  module _ {rest : List ℕ} {best : ℕ} (l : Longest ns n left i rest best) where
+    pub stops : rest ≡ [] → best ≡ worst_below ns left i
     unfolding greatest
-    stops e = omega (arith, l.is, ap (greatest (run_by ns left i)) (chain-none v l.siblings e))
+    stops e = omega (arith, l.is, ap (greatest (run_by ns left i)) e)
 
     -- at the child x, which is read at k: the run from p by q, and on
-    module _ {x : NodeIndex} (more : child ≡ Some x) {k : ℕ} (e : k ≡ x.0) where
-      here : x.0 < n
-      here = child_low v l.siblings more
+    module _ {x : ℕ} {rest' : List ℕ} (more : rest ≡ x ∷ rest') {k : ℕ} (e : k ≡ x) where
+      pub here : x < n
+      unfolding Has
+      here = l.below x (subst (Has x) (sym more) (inl refl))
 
       pub child_near : {q : Point} → q ≡ point_at c.rows.xs c.rows.ys k → Within reach q
-      child_near eq = near_read v x.0 here k e eq
+      child_near eq = near_read v x here k e eq
 
       module _ {p q : Point} {d b : ℕ} (in_n : i < n) (ep : p ≡ point_at c.rows.xs c.rows.ys i) (eq : q ≡ point_at c.rows.xs c.rows.ys k)
-          (ed : d ≡ dist p q) (eb : b ≡ worst_below ns (left - 1) x.0) (sb : b ≤ across * (left - 1)) where
+          (ed : d ≡ dist p q) (eb : b ≡ worst_below ns (left - 1) x) (sb : b ≤ across * (left - 1)) where
         pub run_low : d + b ≤ across * left
         run_low = let z = l.some in omega (arith, near_by (near_read v i in_n i refl ep) (child_near eq) ed)
 
-        run_is : d + b ≡ run_by ns left i x.0
-        run_is = λ j. (ed ∙ (λ m. dist (point_read v i in_n i refl ep m) (point_read v x.0 here k e eq m))) j + eb j
+        run_is : d + b ≡ run_by ns left i x
+        run_is = λ j. (ed ∙ (λ m. dist (point_read v i in_n i refl ep m) (point_read v x here k e eq m))) j + eb j
 
-        -- and the sibling before
-        pub raised : {before : Option NodeIndex} {best' : ℕ} → before ≡ index_from (get_or c.prev k 0) → best' ≡ max best (d + b) → Longest ns c.prev n left i before best'
-        unfolding greatest
-        raised ey eb' =
+        -- and the children before
+        pub raised : {best' : ℕ} → best' ≡ max best (d + b) → Longest ns n left i rest' best'
+        unfolding greatest Has
+        raised eb' =
             record {
               some = l.some;
               small = omega (arith, l.small, run_low);
-              siblings = siblings_before v l.siblings more k e ey;
-              is = omega (arith, l.is, run_is, ap (greatest (run_by ns left i)) (chain_step v l.siblings more k e ey));
+              below = λ y m. l.below y (subst (Has y) (sym more) (inr m));
+              is = omega (arith, l.is, run_is, ap (greatest (run_by ns left i)) more);
             }
 
 -- the levels of a whole tree

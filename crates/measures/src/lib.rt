@@ -2,10 +2,13 @@
 #![tactic(auto)]
 
 ghost use Rattle.std.specs.Prelude.{◌≡◌, ℕ, ◌*◌, ◌<◌, ◌≤◌};
+ghost use Rattle.std.specs.Iterator.{YieldsFirstBy, item_count};
 ghost use Rattle.tree.specs.Limits.{across, most_nodes};
 ghost use Rattle.tree.specs.Tree.{total, edge};
 ghost use Rattle.tree.specs.Measures.{worst, worst_below};
+ghost use Rattle.joining.specs.Buffers.{column};
 ghost use Rattle.measures.specs.Standing.{Lends, nodes_in};
+ghost use Rattle.measures.specs.Children.{Siblings};
 
 use joining::Arena;
 use tree::NodeIndex;
@@ -17,7 +20,31 @@ pub struct Lent<'a> {
     pub ghost held: { ∥ Lends arena.now ∥₁ },
 }
 
-// ---- the total
+// A child and the siblings before it, from the last to the first: in a tree that is lent they end.
+#[derive(Drop)]
+pub struct Chain<'a> {
+    pub tree: Lent<'a>,
+    pub next: Option<NodeIndex>,
+    pub ghost stand: { ∥ Siblings (column 1 tree.arena.now.links) tree.arena.now.counts.nodes next ∥₁ },
+}
+
+impl<'a> Iterator for Chain<'a> {
+    type Item = NodeIndex;
+
+    ghost use Rattle.measures.specs.Chains.{rest_of};
+
+    ghost next_gives = { YieldsFirstBy (λ c. c.0) rest_of };
+
+    ghost remaining = { item_count rest_of };
+
+    fn next(&mut self) -> Option<NodeIndex> {
+        let c = self.next?;
+        self.next = joining::child_before(&self.tree.arena.links, usize::from(c));
+        Some(c)
+    }
+}
+
+// ---- the total. That an index is a node's is asked, here and by other readers: it is of an index and a tree together.
 
 // From node i to its parent; 0 for the source.
 fn edge(tree: Lent, i: usize) -> u32
@@ -45,7 +72,7 @@ pub fn total_wirelength(tree: Lent) -> u32
 
 // ---- the worst
 
-// The longest sum from a node down to any leaf, over at most `left` levels.
+// The longest sum from a node down to any leaf, over at most `left` levels, which falls.
 fn worst_below(tree: Lent, node: NodeIndex, left: usize) -> u32
     requires { (node.0 < tree.arena.now.counts.nodes) × (left ≤ most_nodes) }
     ensures { (result ≡ worst_below (nodes_in tree.entry.arena.now) left node.0) × (result ≤ across * left) }
@@ -55,15 +82,13 @@ fn worst_below(tree: Lent, node: NodeIndex, left: usize) -> u32
     }
     let i = usize::from(node);
     let p = tree.arena.nodes.point_at(i);
+    let next = joining::last_child(&tree.arena.links, i);
     let mut longest = 0;
-    let mut child = joining::last_child(&tree.arena.links, i);
-    while let Some(c) = child {
-        let k = usize::from(c);
-        let q = tree.arena.nodes.point_at(k);
+    for c in (Chain { tree, next }) {
+        let q = tree.arena.nodes.point_at(usize::from(c));
         let below = worst_below(tree, c, left - 1);
         let run = search::distance(p, q) + below;
         longest = longest.max(run);
-        child = joining::child_before(&tree.arena.links, k);
     }
     longest
 }

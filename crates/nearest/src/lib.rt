@@ -16,6 +16,7 @@ ghost use Rattle.nearest.specs.Columns.{NearAt, NearPoints, Distances, SummedCol
 ghost use Rattle.nearest.specs.Sole.{TwoLeast, Told, Right, join_on};
 
 use geometry::Point;
+use joining::Arena;
 use search::{Found, Join, LinkColumns, NodeColumns, Query};
 use tree::NodeIndex;
 
@@ -25,11 +26,11 @@ const NODE_INDICES: u32 = 256;
 // More than any u16: a branch's rank of 64 bits has room for them all.
 const BRANCH_INDICES: u64 = 65536;
 
-// More than the rank of any branch within the allowance.
-const BEYOND: u64 = 1152921504606846976;
+// More than the rank of any branch within the allowance: added to a rank, it is a test that takes no branch of the code.
+const BEYOND: u64 = 1 << 60;
 
 // The rank where there is no branch: above every other, so that the least of ranks is a `min`, for which an Option would take a branch of the code.
-const NO_RANK: u64 = 18446744073709551615;
+const NO_RANK: u64 = u64::MAX;
 
 // Points in two columns.
 #[derive(Clone, Copy)]
@@ -91,16 +92,16 @@ pub fn find_nearest_node(points: PointColumns, n: u16, q: Point) -> NodeIndex
 }
 
 // The same of a tree in an arena.
-pub fn closest_node(points: &[i32; joining::POINTS], n: u16, q: Point) -> NodeIndex
-    requires { NearPoints n q (column 0 points.now) (column 1 points.now) }
-    ensures { ClosestOf n n (column 0 points.now) (column 1 points.now) q result.0 }
+pub fn closest_node(arena: &Arena, q: Point) -> NodeIndex
+    requires { NearPoints arena.now.counts.nodes q (column 0 arena.now.nodes.points) (column 1 arena.now.nodes.points) }
+    ensures { ClosestOf arena.now.counts.nodes arena.now.counts.nodes (column 0 arena.now.nodes.points) (column 1 arena.now.nodes.points) q result.0 }
 {
-    let all = &points[..];
-    let columns = PointColumns {
-        xs: &all[0..joining::YS],
-        ys: &all[joining::YS..joining::POINTS],
+    let columns = arena.nodes.columns();
+    let points = PointColumns {
+        xs: columns.xs,
+        ys: columns.ys,
     };
-    find_nearest_node(columns, n, q)
+    find_nearest_node(points, arena.counts.nodes, q)
 }
 
 // ---- ranks of branches
@@ -165,7 +166,8 @@ impl Least {
     }
 }
 
-// The child of the branch within the allowance that is nearer than every other one, where it is certain that there is one.
+// The child of the branch within the allowance that is nearer than every other one, where it is certain that there is one. (n nodes, here and below:
+// columns are longer.)
 fn find_nearest(n: usize, query: Query, nodes: NodeColumns, parent: &[u16]) -> Option<NodeIndex>
     requires { SummedColumns n query.point nodes.xs.now nodes.ys.now nodes.path.now parent.now }
     ensures { Right n query nodes.entry.xs.now nodes.entry.ys.now nodes.entry.path.now parent.now result }

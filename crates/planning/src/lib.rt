@@ -35,7 +35,7 @@ pub fn put_refusal(out: &mut [u8], at: usize, r: Refusal) -> usize
     output::put_bytes(out, p2, b"\n")
 }
 
-// One write for each part of the line: a list of the parts would need a kind for each.
+// One write for each part of the line, and no `write!`: digits are made without division (docs/DECISIONS.md 36), and a place past the end still counts.
 pub fn put_figures(out: &mut [u8], at: usize, f: Figures) -> usize
     ensures { Puts out.old at (figures_line f.allowed f.farthest f.total f.worst) out.new result }
 {

@@ -110,7 +110,7 @@ pub fn nodes_of(t: &Table) -> [RoutingNode; tree::MOST_NODES]
     tables::pack(&t.arena.nodes, usize::from(t.arena.counts.nodes))
 }
 
-// The rows of the first n nodes.
+// The rows of the first n nodes of an array: there is no heap.
 pub fn rows_of(nodes: &[RoutingNode; tree::MOST_NODES], n: u16) -> NodeRows
     requires { Unpackable nodes.now n }
     ensures packs { Packs (rows_held result) n nodes.now }

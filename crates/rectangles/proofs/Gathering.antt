@@ -62,13 +62,13 @@ module _ (f : Flat) (k : Rectangle) where
           ap (take (4 * (f.count + 1))) (e ∙ sets-eq (four k) f.bounds (4 * f.count) (omega (arith, h, g.long)))
           ∙ take_at (take (4 * f.count) f.bounds ++ four k) _ (4 * (f.count + 1)) (length-append (take (4 * f.count) f.bounds) (four k) ∙ omega (arith, there))
 
--- no more than there is room for
-pub few : {ks : List Rectangle} {f : Flat} → Gathers ks f → f.count ≤ room
-few {ks} g = omega (arith, g.count, length-take room ks)
-
 -- of a list with as much room as there is, the first n are the first of as many of n as there is room for
 pub all_taken : (n : ℕ) → room ≤ n → (l : List Rectangle) → length l ≡ room → take room l ≡ take n l
 all_taken n h l e = take_all room l (omega (arith, e)) ∙ sym (take_all n l (omega (arith, e, h)))
+
+-- of the numbers of n rectangles likewise
+pub all_lent : (n : ℕ) → room ≤ n → (l : List ℤ) → length l ≡ 4 * room → take (4 * room) l ≡ take (4 * n) l
+all_lent n h l e = take_all (4 * room) l (omega (arith, e)) ∙ sym (take_all (4 * n) l (omega (arith, e, h)))
 
 -- a call that refuses more than an edit takes answers of what is gathered as of all
 pub answers_same : {A : Type 0} (x : A) (f : List Rectangle → A) (ks : List Rectangle)

@@ -1,8 +1,8 @@
 // Rectangle records as flat numbers: lower x, upper x, lower y, upper y of each, as the search takes keepouts.
 #![tactic(auto)]
 
-ghost use Rattle.std.specs.Prelude.{◌≡◌, ◌≤◌, ◌*◌, [], take};
-ghost use Rattle.rectangles.specs.Rectangles.{room, Gathers, Adds};
+ghost use Rattle.std.specs.Prelude.{◌≡◌, ◌*◌, [], take};
+ghost use Rattle.rectangles.specs.Rectangles.{Gathers, Adds};
 
 use geometry::Rectangle;
 
@@ -44,12 +44,12 @@ impl Flat {
         self.count = n + 1;
     }
 
-    // The numbers of its rectangles.
+    // The numbers of its rectangles, all where there is no room for so many.
+    #[tactic(auto, using(crate::proofs::Gathering::all_lent))]
     pub fn bounds(&self) -> &[i32]
-        requires { self.now.count ≤ room }
         ensures { result.now ≡ take (4 * self.now.count) self.now.bounds }
     {
-        &self.bounds[..tree::KEEPOUT_BOUNDS * self.count]
+        &self.bounds[..tree::KEEPOUT_BOUNDS * self.count.min(ROOM)]
     }
 }
 

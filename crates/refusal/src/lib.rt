@@ -1,7 +1,7 @@
 // Why a call refuses, with the numbers of document 01, each once.
 #![tactic(auto)]
 
-ghost use Rattle.std.specs.Prelude.{◌≡◌};
+ghost use Rattle.std.specs.Prelude.{◌≡◌, ◌++◌, Some, codes, decimal};
 ghost use Rattle.refusal.specs.Refusals.{number_of};
 
 use std::error::Error;
@@ -53,6 +53,8 @@ impl From<Refusal> for u8 {
 
 // As the program writes it.
 impl fmt::Display for Refusal {
+    ghost output = { λ r. Some (codes "refused " ++ decimal (number_of r)) };
+
     fn fmt<W: fmt::Write>(&self, f: &mut fmt::Formatter<W>) -> fmt::Result {
         write!(f, "refused {}", self.number())
     }

@@ -1,7 +1,6 @@
 -- One column, whatever its elements: those after the i-th move one place down, and links are lowered by a loop. The idea: what stands before the
 -- loop's place is done, and what stands from there on is as it was.
-use Rattle.std.proofs.Common.{ℕ, ◌+◌, ◌-◌, ◌≤◌, ◌<◌, ◌≡◌, refl, ap, sym, subst, ◌∙◌, ◌≢◌, List, arith, length, get_or, set, length-set, get_or-set_same, get_or-set_other}
-use Rattle.std.proofs.Math.Decide.{ℕ_discrete}
+use Rattle.std.proofs.Common.{ℕ, ◌+◌, ◌-◌, ◌≤◌, ◌<◌, ◌≡◌, ap, subst, ◌∙◌, ◌≢◌, List, arith, length, get_or}
 use Rattle.std.specs.List.{CopiedTo, SameBelow}
 use Rattle.tree.specs.Optimize.{closed}
 use Rattle.tree.proofs.Closing.{Closed, stays, moves, closes}
@@ -22,36 +21,10 @@ module _ {A : Type 0} (n i : ℕ) (l l' : List A) (h : i < n) (size : length l' 
 
 -- ---- links
 -- the first j links are lowered
-pub record Lowering (n i : ℕ) (l₀ l : List ℕ) (j : ℕ) : Type 0 where
-  pub low : j ≤ n
-  pub room : n ≤ length l
+pub record Lowering (i : ℕ) (l₀ l : List ℕ) (j : ℕ) : Type 0 where
   pub size : length l ≡ length l₀
   pub done : (x : ℕ) → x < j → get_or l x 0 ≡ closed_link i (get_or l₀ x 0)
   pub rest : (x : ℕ) → j ≤ x → get_or l x 0 ≡ get_or l₀ x 0
-
-module _ (n i : ℕ) (l₀ : List ℕ) where
-  pub lowering_starts : n ≤ length l₀ → Lowering n i l₀ l₀ 0
-  lowering_starts r = record { low = omega arith; room = r; size = refl; done = λ x a. absurd (omega arith); rest = λ x a. refl }
-
-  module _ (l : List ℕ) (j : ℕ) (u : Lowering n i l₀ l j) where
-    pub lowering_turn : j < n → (v : ℕ) → v ≡ closed_link i (get_or l j 0) → Lowering n i l₀ (set l j v) (j + 1)
-    lowering_turn h v e =
-        record {
-          low = omega arith;
-          room = omega (arith, length-set l j v, u.room);
-          size = length-set l j v ∙ u.size;
-          done = λ x a. by x a (ℕ_discrete x j);
-          rest = λ x a. get_or-set_other l j x v 0 (omega arith) ∙ u.rest x (omega arith);
-        }
-      where
-        by : (x : ℕ) → x < j + 1 → Dec (x ≡ j) → get_or (set l j v) x 0 ≡ closed_link i (get_or l₀ x 0)
-        by x a (yes d) =
-            subst (λ (y : ℕ). get_or (set l j v) y 0 ≡ closed_link i (get_or l₀ y 0)) (sym d)
-            (get_or-set_same l j v 0 (omega (arith, u.room)) ∙ e ∙ ap (closed_link i) (u.rest j (omega arith)))
-        by x a (no d) = get_or-set_other l j x v 0 d ∙ u.done x (omega arith)
-
-    pub lowering_ends : n ≤ j → Lowered n i l₀ l
-    lowering_ends h = record { reads = λ x a. u.done x (omega arith); size = u.size }
 
 -- ---- what the calls give
 -- the place is given as a number

@@ -42,8 +42,8 @@ fn lower_links(col: &mut [u16], n: usize, i: u16)
     requires { n ≤ length col.old }
     ensures { Lowered n i col.old col.new }
 {
-    for j in 0..n {
-        col[j] = lowered(col[j], i);
+    for v in &mut col[..n] {
+        *v = lowered(*v, i);
     }
 }
 

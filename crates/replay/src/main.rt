@@ -5,33 +5,16 @@
 ghost use Rattle.std.specs.Prelude.{◌≡◌, ◌+◌, ◌<◌, ◌≤◌, length, IfSome};
 
 use global_router::GlobalRoutingTree;
-use std::fmt;
 use std::io::{Read, Result};
 
 // Room for any case of the input.
 const MOST_CASE: usize = 131072;
 
-#[derive(Clone, Copy)]
-enum Kind {
-    Job,
-    Script,
-}
-
-// As its line names it.
-impl fmt::Display for Kind {
-    fn fmt<W: fmt::Write>(&self, f: &mut fmt::Formatter<W>) -> fmt::Result {
-        match self {
-            Kind::Job => f.write_str("job"),
-            Kind::Script => f.write_str("script"),
-        }
-    }
-}
-
 // ---- slices
 
 // Whether the first n bytes of a buffer are what is expected.
 fn wrote(buf: &[u8], n: usize, expected: &[u8]) -> bool {
-    n == expected.len() && buf.starts_with(expected)
+    buf.get(..n) == Some(expected)
 }
 
 // The length of a part.
@@ -44,18 +27,12 @@ fn length_at(case: &[u8], at: usize) -> usize {
 
 fn plans(job: &[u8], text: &[u8]) -> bool {
     let mut out = planning::buffer::<{ planning::MOST_OUTPUT }>();
-    match planning::plan(job, &mut out) {
-        Ok(n) => wrote(&out, n, text),
-        Err(_) => false,
-    }
+    planning::plan(job, &mut out).is_ok_and(|n| wrote(&out, n, text))
 }
 
 fn gives_bytes(t: &GlobalRoutingTree, bytes: &[u8]) -> bool {
     let mut out = planning::buffer::<{ script::MOST_BYTES }>();
-    match t.to_bytes(&mut out) {
-        Ok(n) => wrote(&out, n, bytes),
-        Err(_) => false,
-    }
+    t.to_bytes(&mut out).is_ok_and(|n| wrote(&out, n, bytes))
 }
 
 // A refused job has no bytes.
@@ -159,22 +136,21 @@ fn read_case<R: Read>(source: &mut R, buf: &mut [u8]) -> usize
     n
 }
 
-// Reads the next case and runs it.
-fn replay_case<R: Read>(source: &mut R, kind: Kind) -> bool {
-    let mut buf = planning::buffer::<MOST_CASE>();
-    let n = read_case(source, &mut buf);
-    match kind {
-        Kind::Job => job_case_agrees(&buf[..n]),
-        Kind::Script => script_case_agrees(&buf[..n]),
-    }
-}
-
-// How many of n cases differ.
-fn replay<R: Read>(rt: &HostRuntime, source: &mut R, n: u32, kind: Kind) -> Result<u32> {
+// How many of n cases, which the output calls by their kind, do not agree.
+fn replay<R: Read, F: Fn(&[u8]) -> bool>(
+    rt: &HostRuntime,
+    source: &mut R,
+    n: u32,
+    kind: &str,
+    agrees: F,
+) -> Result<u32>
+    requires { F.IsAlwaysCallable agrees }
+{
     let mut differing: u32 = 0;
     for i in 0..n {
-        let agrees = replay_case(source, kind);
-        if !agrees {
+        let mut buf = planning::buffer::<MOST_CASE>();
+        let size = read_case(source, &mut buf);
+        if !agrees(&buf[..size]) {
             println!(rt; "{kind} {i} differs")?;
             differing += 1;
         }
@@ -189,7 +165,7 @@ fn main(rt: HostRuntime) -> Result<()> {
     fill(&mut source, &mut counts);
     let jobs = wire::u32_at(&counts, 0);
     let scripts = wire::u32_at(&counts, 4);
-    let of_jobs = replay(&rt, &mut source, jobs, Kind::Job)?;
-    let of_scripts = replay(&rt, &mut source, scripts, Kind::Script)?;
+    let of_jobs = replay(&rt, &mut source, jobs, "job", job_case_agrees)?;
+    let of_scripts = replay(&rt, &mut source, scripts, "script", script_case_agrees)?;
     println!(rt; "jobs {jobs} differing {of_jobs} scripts {scripts} differing {of_scripts}")
 }

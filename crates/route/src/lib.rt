@@ -45,8 +45,8 @@ fn farthest(px: &[i32], py: &[i32], s: Point) -> u32
     w
 }
 
-// The allowance where there is none to keep: a fresh tree's limit. (`as`: a constant's value calls no function.)
-const ALL_ALLOWED: i32 = tree::NO_LIMIT as i32;
+// The allowance where there is none to keep.
+const ALL_ALLOWED: i32 = i32::MAX;
 
 fn choose(mode: Mode, s: Point, w: u32) -> Choice
     ensures { result ≡ choice_of mode s w }

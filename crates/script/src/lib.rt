@@ -89,23 +89,29 @@ fn keepouts_in(record: &[u8]) -> Rectangles {
 
 // ---- edits
 
-// Calls 1 to 5.
-fn edit(t: &mut GlobalRoutingTree, record: &[u8], call: u8) -> Result<NodeName, Refusal> {
+// Calls 1 to 5, each one call of the tree with what the record holds.
+fn insert_steiner_node(t: &mut GlobalRoutingTree, record: &[u8]) -> Result<NodeName, Refusal> {
+    t.insert_steiner_node(point_in(record), parent_in(record))
+}
+
+fn insert_terminal_node(t: &mut GlobalRoutingTree, record: &[u8]) -> Result<NodeName, Refusal> {
+    t.insert_terminal_node(point_in(record), parent_in(record))
+}
+
+fn insert_node_on_branch(t: &mut GlobalRoutingTree, record: &[u8]) -> Result<NodeName, Refusal> {
+    let kind = type_at(record, 1);
+    let end = name_at(record, 5, 8);
+    t.insert_node_on_branch(kind, point_in(record), name_a(record), end)
+}
+
+fn insert_with_steiner(t: &mut GlobalRoutingTree, record: &[u8]) -> Result<NodeName, Refusal> {
+    listed::insert_terminal_with_steiner(t, point_in(record), &keepouts_in(record))
+}
+
+fn insert_with_constraints(t: &mut GlobalRoutingTree, record: &[u8]) -> Result<NodeName, Refusal> {
     let point = point_in(record);
-    match call {
-        1 => t.insert_steiner_node(point, parent_in(record)),
-        2 => t.insert_terminal_node(point, parent_in(record)),
-        3 => {
-            let kind = type_at(record, 1);
-            let end = name_at(record, 5, 8);
-            t.insert_node_on_branch(kind, point, name_a(record), end)
-        }
-        4 => listed::insert_terminal_with_steiner(t, point, &keepouts_in(record)),
-        _ => {
-            let allowance = wire::i32_at(record, 20);
-            listed::insert_terminal_with_constraints(t, point, allowance, &keepouts_in(record))
-        }
-    }
+    let allowance = wire::i32_at(record, 20);
+    listed::insert_terminal_with_constraints(t, point, allowance, &keepouts_in(record))
 }
 
 // ---- lines
@@ -125,6 +131,16 @@ fn count_of(t: &GlobalRoutingTree) -> u8 {
 
 fn put_count(out: &mut [u8], t: &GlobalRoutingTree) -> usize {
     put_word(out, b"ok ", u32::from(count_of(t)))
+}
+
+// An edit's line, where it was not refused.
+fn put_edited(
+    edit: Result<NodeName, Refusal>,
+    t: &GlobalRoutingTree,
+    out: &mut [u8],
+) -> Result<usize, Refusal> {
+    edit?;
+    Ok(put_count(out, t))
 }
 
 fn put_list(out: &mut [u8], word: &[u8], list: &[u16]) -> usize {
@@ -161,21 +177,16 @@ fn put_text(out: &mut [u8], text: &[u8]) -> usize
 // ---- questions: each has a buffer that is long enough, of which the call is lent what the record says. A tree, a record and an output are what every
 // question takes, and one `match` hands them on: a struct of them would hold a `&mut`.
 
-// Calls 7 to 9.
-fn ask_list(
-    t: &GlobalRoutingTree,
+fn ask_list<F: FnOnce(&mut [u16]) -> Result<usize, Refusal>>(
     record: &[u8],
-    call: u8,
     out: &mut [u8],
-) -> Result<usize, Refusal> {
+    word: &[u8],
+    fill: F,
+) -> Result<usize, Refusal>
+    requires { F.IsAlwaysCallable fill }
+{
     let mut list = [0u16; MOST_LISTED];
-    let lent = &mut list[..room_in(record, MOST_LISTED)];
-    let (word, answer) = match call {
-        7 => (&b"path"[..], t.find_path_to_source(name_a(record), lent)),
-        8 => (&b"terminals"[..], t.get_all_terminals(lent)),
-        _ => (&b"steiners"[..], t.get_all_steiner_nodes(lent)),
-    };
-    let n = answer?;
+    let n = fill(&mut list[..room_in(record, MOST_LISTED)])?;
     Ok(put_list(out, word, &list[..n.min(MOST_LISTED)]))
 }
 
@@ -210,33 +221,38 @@ fn ask_figures(t: &GlobalRoutingTree, out: &mut [u8]) -> usize {
     planning::put_figures(out, 0, f)
 }
 
-// Calls 7 to 13.
-fn ask(t: &GlobalRoutingTree, record: &[u8], call: u8, out: &mut [u8]) -> Result<usize, Refusal> {
-    match call {
-        7..=9 => ask_list(t, record, call, out),
+// ---- a record
+
+// Runs a record, and puts its line. (Calls by their numbers: an enum of them would list the same numbers once more.)
+fn run(t: &mut GlobalRoutingTree, record: &[u8], out: &mut [u8]) -> Result<usize, Refusal> {
+    match wire::byte_at(record, 0) {
+        1 => put_edited(insert_steiner_node(t, record), t, out),
+        2 => put_edited(insert_terminal_node(t, record), t, out),
+        3 => put_edited(insert_node_on_branch(t, record), t, out),
+        4 => put_edited(insert_with_steiner(t, record), t, out),
+        5 => put_edited(insert_with_constraints(t, record), t, out),
+        6 => {
+            t.optimize_steiner_points();
+            Ok(put_count(out, t))
+        }
+        7 => ask_list(
+            record,
+            out,
+            b"path",
+            |lent| t.find_path_to_source(name_a(record), lent),
+        ),
+        8 => ask_list(record, out, b"terminals", |lent| t.get_all_terminals(lent)),
+        9 => ask_list(
+            record,
+            out,
+            b"steiners",
+            |lent| t.get_all_steiner_nodes(lent),
+        ),
         10 => ask_index(t, record, out),
         11 => ask_text(t, record, out),
         12 => ask_bytes(t, record, out),
         13 => Ok(ask_figures(t, out)),
         _ => Ok(wire::put_all(out, 0, b"no such call\n")),
-    }
-}
-
-// ---- a record
-
-// Runs a record, and puts its line. (Calls by their numbers, here and above: an enum of them would list the same numbers once more, and be matched alike.)
-fn run(t: &mut GlobalRoutingTree, record: &[u8], out: &mut [u8]) -> Result<usize, Refusal> {
-    let call = wire::byte_at(record, 0);
-    match call {
-        1..=5 => {
-            edit(t, record, call)?;
-            Ok(put_count(out, t))
-        }
-        6 => {
-            t.optimize_steiner_points();
-            Ok(put_count(out, t))
-        }
-        _ => ask(t, record, call, out),
     }
 }
 

@@ -1,5 +1,5 @@
 -- The tests of one branch, and what is found with it, are those of the definitions: L ≤ allowed on signed numbers, the take.
-use Rattle.std.proofs.Common.{ℕ, ◌+◌, ◌≤◌, ◌≡◌, refl, ap, sym, ◌∙◌, subst, Bool, true, false, ◌||◌, arith, leb, T, ℤ, pos, negsuc, nat_abs}
+use Rattle.std.proofs.Common.{ℕ, ◌+◌, ◌≤◌, ◌≡◌, refl, ap, sym, ◌∙◌, subst, Bool, true, false, ◌||◌, cond, arith, leb, T, ℤ, pos, negsuc, nat_abs, None, Some}
 use lib.Signed.{le_z, lt_z}
 use borrow.Author.Tests.{leb-true, le-ltb}
 use mir.Syntax.{w32}
@@ -14,7 +14,7 @@ use Rattle.search.specs.declared.Best.{Best}
 use Rattle.search.specs.declared.Query.{Query}
 use Rattle.search.specs.declared.NodeView.{NodeView}
 use Rattle.search.specs.Branch.{judge, take_it, join_at, run_to}
-use Rattle.search.specs.Thin.{is_past, untaken, judged_at}
+use Rattle.search.specs.Thin.{is_past, judged_at}
 
 -- ---- L ≤ allowed
 abs-le : (l : ℕ) (z : ℤ) → lt_z z (pos 0) ≡ false → leb l (nat_abs z) ≡ le_z (pos l) z
@@ -59,19 +59,18 @@ module _ (a : Query) (P C : NodeView) (n : Point) (b : Best) (d e : ℕ) (w t : 
   unfolding judge
   judge-yes j v et ej ev = rw (is_taken_lem, et) (λ i. record { join = ej i; best = hd i; within = (ev ∙ ap (λ (x : Bool). x || b.within) (sym is_within)) i })
 
-  judge_no : t ≡ false → b ≡ judge a P C n b
-  unfolding judge
-  judge_no et = rw (is_taken_lem, et)
+  when : {s : Bool} → t ≡ s → cond s (Some (judge a P C n b)) None ≡ judged_at a P C b n
+  when et = λ i. cond ((sym et ∙ sym is_taken_lem) i) (Some (judge a P C n b)) None
 
   pub judged-yes : (j : Join) (v : Bool) → t ≡ true → j ≡ join_at n P C → v ≡ w || b.within
-      → record { near = n; found = record { join = j; best = d; within = v }; taken = true } ≡ judged_at a P C b n
-  judged-yes j v et ej ev = λ i. record { near = n; found = judge-yes j v et ej ev i; taken = (sym et ∙ sym is_taken_lem) i }
+      → Some (record { join = j; best = d; within = v }) ≡ judged_at a P C b n
+  judged-yes j v et ej ev = ap Some (judge-yes j v et ej ev) ∙ when et
 
-  pub judged_no : t ≡ false → untaken n b ≡ judged_at a P C b n
-  judged_no et = λ i. record { near = n; found = judge_no et i; taken = (sym et ∙ sym is_taken_lem) i }
+  pub judged_no : t ≡ false → None ≡ judged_at a P C b n
+  judged_no et = when et
 
 -- a branch that is past what was found
-pub judged-past : (a : Query) (P C : NodeView) (n : Point) (b : Best) (d : ℕ) → d ≡ dist n a.point → is_past b d ≡ true → untaken n b ≡ judged_at a P C b n
+pub judged-past : (a : Query) (P C : NodeView) (n : Point) (b : Best) (d : ℕ) → d ≡ dist n a.point → is_past b d ≡ true → None ≡ judged_at a P C b n
 judged-past a P C n b d hd e =
     judged_no a P C n b d (dist P.point n) _ _ hd refl refl refl
     (takes_none (le_z (pos (P.path + dist P.point n + d)) a.allowed) d (P.path + dist P.point n + d) a.limit d b (found b d e) (omega arith))

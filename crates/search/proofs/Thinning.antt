@@ -1,12 +1,13 @@
 -- Nodes whose subtrees hold nothing to take may be left off the stack. The idea: on a stack that is a thinned copy of the plain walk's, each step finds what the plain
 -- walk finds, once that has popped the nodes that were left off; and those change nothing.
-use Rattle.std.proofs.Common.{ℕ, zero, suc, ◌≤◌, ◌<◌, ◌≡◌, refl, ap, sym, subst, ◌∙◌, Bool, true, false, ◌||◌, cond, List, [], ◌∷◌, inl, inr, arith, length}
+use Rattle.std.proofs.Common.{ℕ, zero, suc, ◌≤◌, ◌<◌, ◌≡◌, refl, ap, sym, subst, ◌∙◌, Bool, true, false, ◌||◌, cond, List, [], ◌∷◌, inl, inr, arith, length, None, Some, is_some, unwrap_or}
 use Rattle.geometry.specs.declared.Point.{Point}
 use Rattle.geometry.specs.declared.Rectangle.{Rectangle}
 use Rattle.tree.specs.Search.{nearest_on}
 use Rattle.search.specs.declared.Best.{Best}
 use Rattle.search.specs.declared.Query.{Query}
 use Rattle.search.specs.declared.NodeView.{NodeView}
+use Rattle.search.specs.declared.Examined.{Examined}
 use Rattle.search.specs.Branch.{is_taken, is_blocked, judge, examine_branch}
 use Rattle.search.specs.Walk.{Walk, examine_children, after_branch, walk, Safe}
 use Rattle.search.specs.Columns.{Has}
@@ -57,10 +58,21 @@ module _ (ks : List Rectangle) (a : Query) (view : ℕ → NodeView) (children :
     unfolding judge
     not_taken P C m b e = rw e
 
+    -- what is found with a branch, as the code has it: of a branch that is not taken, what was found
+    found_some : (t : Bool) (g : Best) → is_some (cond t (Some g) None) ≡ t
+    found_some true g = refl
+    found_some false g = refl
+
+    found_value : (t : Bool) (g b : Best) → (t ≡ false → g ≡ b) → unwrap_or (cond t (Some g) None) b ≡ g
+    found_value true g b f = refl
+    found_value false g b f = sym (f refl)
+
     branch : (P : NodeView) (c : ℕ) (b : Best) (s t : List ℕ) → c < n → Thins Still b s t
         → Paired (after_branch ks a view (examine_branch ks a P (view c) b) c s) (after_branch ks a view (thin_branch ks a view wanted P c b) c t)
     unfolding is_blocked
-    branch P c b s t h th = by (is_taken a P m b) (wanted g c) (is_blocked ks a P (view c)) refl refl
+    branch P c b s t h th =
+        subst (λ (e : Examined). Paired (after_branch ks a view (examine_branch ks a P (view c) b) c s) (after_branch ks a view e c t)) (sym is)
+        (by (is_taken a P m b) (wanted g c) (is_blocked ks a P (view c)) refl refl)
       where
         m : Point
         m = nearest_on P.point (view c).point a.point
@@ -70,6 +82,15 @@ module _ (ks : List Rectangle) (a : Query) (view : ℕ → NodeView) (children :
 
         kept : Thins Still g s t
         kept = thins_map Still (λ x z. v.later b x P (view c) z) th
+
+        told : Bool → Best → Bool → Examined
+        told k f w = cond (k || w) (cond (is_blocked ks a P (view c)) (record { found = b; pushed = false }) (record { found = f; pushed = w })) (record { found = b; pushed = false })
+
+        is : thin_branch ks a view wanted P c b ≡ told (is_taken a P m b) g (wanted g c)
+        is =
+            let t : Bool = is_taken a P m b in
+            let v : unwrap_or (cond t (Some g) None) b ≡ g = found_value t g b (not_taken P (view c) m b) in
+            λ i. told (found_some t g i) (v i) (wanted (v i) c)
 
         by : (k w l : Bool) → is_taken a P m b ≡ k → wanted g c ≡ w
             → Paired (after_branch ks a view (cond l (record { found = b; pushed = false }) (record { found = g; pushed = true })) c s)

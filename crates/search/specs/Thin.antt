@@ -1,6 +1,6 @@
 -- The walk as the code does it: a branch is judged before its keepouts are tested, and a child is pushed only where something in its subtree could be taken.
 -- proofs/Thinning.antt has that this finds what the plain walk (specs/Walk.antt) finds.
-use Rattle.std.specs.Prelude.{ℕ, ◌+◌, ◌≤◌, ◌<◌, ◌≡◌, Bool, false, not, ◌&&◌, ◌||◌, cond, List, [], ◌∷◌, length, get_or, leb, eqb, ℤ}
+use Rattle.std.specs.Prelude.{ℕ, ◌+◌, ◌≤◌, ◌<◌, ◌≡◌, Bool, false, not, ◌&&◌, ◌||◌, cond, List, [], ◌∷◌, length, get_or, leb, eqb, ℤ, Option, Some, None, is_some, unwrap_or}
 use Rattle.geometry.specs.declared.Point.{Point}
 use Rattle.geometry.specs.declared.Rectangle.{Rectangle}
 use Rattle.tree.specs.Limits.{no_node}
@@ -21,19 +21,17 @@ use Rattle.search.specs.Columns.{Has, InReach, stack_of, children_in}
 abbrev pub is_past : Best → ℕ → Bool
 is_past b d = b.within && leb b.best d
 
-abbrev pub untaken : Point → Best → Judged
-untaken n b = record { near = n; found = b; taken = false }
-
-abbrev pub judged_at : Query → NodeView → NodeView → Best → Point → Judged
-judged_at a P C b n = record { near = n; found = judge a P C n b; taken = is_taken a P n b }
+-- what is found if the branch, whose nearest point is n, is taken
+abbrev pub judged_at : Query → NodeView → NodeView → Best → Point → Option Best
+judged_at a P C b n = cond (is_taken a P n b) (Some (judge a P C n b)) None
 
 abbrev pub judged : Query → NodeView → NodeView → Best → Judged
-judged a P C b = judged_at a P C b (nearest_on P.point C.point a.point)
+judged a P C b = let n = nearest_on P.point C.point a.point in record { near = n; found = judged_at a P C b n }
 
 abbrev pub settled : List Rectangle → Query → NodeView → NodeView → Best → Judged → Bool → Examined
 settled ks a P C b j wanted =
-    cond (j.taken || wanted)
-    (cond (blocked ks a.point P.point C.point j.near) (record { found = b; pushed = false }) (record { found = j.found; pushed = wanted }))
+    cond (is_some j.found || wanted)
+    (cond (blocked ks a.point P.point C.point j.near) (record { found = b; pushed = false }) (record { found = unwrap_or j.found b; pushed = wanted }))
     (record { found = b; pushed = false })
 
 -- ---- leaves
@@ -46,7 +44,7 @@ module _ (ks : List Rectangle) (a : Query) (view : ℕ → NodeView) (wanted : B
   abbrev pub thin_branch : ℕ → Best → Examined
   thin_branch c b =
       let j = judged a P (view c) b in
-      settled ks a P (view c) b j (wanted j.found c)
+      settled ks a P (view c) b j (wanted (unwrap_or j.found b) c)
 
   unfoldable pub thin_children : List ℕ → Walk → Walk
   thin_children [] e = e

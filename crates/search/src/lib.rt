@@ -12,7 +12,7 @@ ghost use Rattle.tree.specs.Memory.{keepouts_of};
 ghost use Rattle.search.specs.Branch.{take_it, join_at, keepout_at, stops_by, beside_of, Near};
 ghost use Rattle.search.specs.Walk.{view_in, index_from};
 ghost use Rattle.search.specs.Columns.{ReachIn, Chained, children_in, TreeIn, SafeIn, FoundIn};
-ghost use Rattle.search.specs.Thin.{is_past, untaken, judged_at, judged, settled, is_wanted, thin_branch, ChildIn, NearIn, Pushes};
+ghost use Rattle.search.specs.Thin.{is_past, judged_at, judged, settled, is_wanted, thin_branch, ChildIn, NearIn, Pushes};
 ghost use Rattle.search.specs.Find.{ReadyIn, JoinsIn};
 
 use geometry::{Interval, Point, Rectangle};
@@ -26,7 +26,7 @@ pub enum Join {
 }
 
 // What the search has found so far: the place, its distance, and whether a branch has had L ≤ allowed.
-// Place and distance are there either way, so an enum of two cases would have both twice; `taken` and `pushed` below likewise.
+// Place and distance are there either way, so an enum of two cases would have both twice; `pushed` below likewise.
 #[derive(Clone, Copy)]
 pub struct Best {
     pub join: Join,
@@ -80,13 +80,11 @@ pub struct Found {
     pub looks: u32,
 }
 
-// A branch that no keepout is tested against yet: its nearest point, what is found if it is not blocked, and whether that is taken.
+// A branch that no keepout is tested against yet: its nearest point and, where it is taken, what is found if it is not blocked.
 #[derive(Clone, Copy)]
 pub struct Judged {
     pub near: Point,
-    pub found: Best,
-    // A flag, since `found` is there either way.
-    pub taken: bool,
+    pub found: Option<Best>,
 }
 
 // A branch examined: what is found with it, and whether its child is pushed.
@@ -114,7 +112,8 @@ pub fn nearest_on(p: Point, c: Point, q: Point) -> Point
     p.hull_with(c).nearest_to(q)
 }
 
-// ---- one branch: its ends, what is found so far and the query are handed on as they are; what the walk lends on is one struct, `Search`
+// ---- one branch: its ends, what is found so far and the query are used one by one, so a struct of them would be taken apart at once; what the walk
+// lends on is one, `Search`
 
 impl Query {
     // L ≤ allowed
@@ -159,19 +158,8 @@ pub fn join_at(n: Point, at: NodeView, to: NodeView) -> Join
     }
 }
 
-// A branch that is not taken.
-fn untaken(n: Point, b: Best) -> Judged
-    ensures { result ≡ untaken n b }
-{
-    Judged {
-        near: n,
-        found: b,
-        taken: false,
-    }
-}
-
-// The branch from `at` to its child `to`, were it not blocked: n is its nearest point, d its distance.
-fn judge_at(query: Query, at: NodeView, to: NodeView, n: Point, d: u32, b: Best) -> Judged
+// What is found with the branch from `at` to its child `to`, were it not blocked, if it is taken: n is its nearest point, d its distance.
+fn judge_at(query: Query, at: NodeView, to: NodeView, n: Point, d: u32, b: Best) -> Option<Best>
     requires near { Near query at to }
     requires within { Within reach n }
     requires d_value { d ≡ dist n query.point }
@@ -181,21 +169,16 @@ fn judge_at(query: Query, at: NodeView, to: NodeView, n: Point, d: u32, b: Best)
     let l = at.path + e + d;
     let w = query.allows(l);
     if !b.takes(w, d, l, query.limit) {
-        return untaken(n, b);
+        return None;
     }
-    let found = Best {
+    Some(Best {
         join: join_at(n, at, to),
         best: d,
         within: w | b.within,
-    };
-    Judged {
-        near: n,
-        found,
-        taken: true,
-    }
+    })
 }
 
-// The same. Most branches are past what was found, and need no more than D.
+// The branch, judged. Most branches are past what was found, and need no more than D.
 fn judge(query: Query, at: NodeView, to: NodeView, b: Best) -> Judged
     requires { Near query at to }
     ensures { result ≡ judged query at to b }
@@ -203,9 +186,15 @@ fn judge(query: Query, at: NodeView, to: NodeView, b: Best) -> Judged
     let n = nearest_on(at.point, to.point, query.point);
     let d = distance(n, query.point);
     if b.is_past(d) {
-        return untaken(n, b);
+        return Judged {
+            near: n,
+            found: None,
+        };
     }
-    judge_at(query, at, to, n, d, b)
+    Judged {
+        near: n,
+        found: judge_at(query, at, to, n, d, b),
+    }
 }
 
 // ---- keepouts
@@ -328,9 +317,11 @@ impl Search<'_> {
     fn settle(&self, at: NodeView, to: NodeView, b: Best, j: Judged, wanted: bool) -> Examined
         ensures { result ≡ settled (keepouts_of self.now.ks.now) self.now.query at to b j wanted }
     {
-        if (j.taken | wanted) && !blocked(self.ks, j.near, self.query.point, at.point, to.point) {
+        if (j.found.is_some() | wanted)
+            && !blocked(self.ks, j.near, self.query.point, at.point, to.point)
+        {
             return Examined {
-                found: j.found,
+                found: j.found.unwrap_or(b),
                 pushed: wanted,
             };
         }
@@ -410,7 +401,7 @@ impl Search<'_> {
     }
 }
 
-// Where the search over a tree of n nodes has the point join.
+// Where the search over a tree of n nodes, of columns that are longer, has the point join.
 pub fn find_insertion_point(
     n: usize,
     query: Query,

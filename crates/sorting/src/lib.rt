@@ -15,7 +15,7 @@ use geometry::Point;
 const LEAST: i32 = -tree::REACH;
 
 // A coordinate has 21 bits of a key.
-const PART: u64 = 2097152;
+const PART: u64 = 1 << 21;
 
 // ---- a key
 
@@ -53,7 +53,8 @@ fn point_of(k: u64) -> Point
     Point { xcoord, ycoord }
 }
 
-// ---- columns to keys, and back. The two columns are a job's own, lent as `&mut`: a struct that said that they are even would hold both.
+// ---- columns to keys, and back. The two columns are a job's own, lent by `&` where they are read and by `&mut` where they are sorted: a struct that
+// said that they are even would have to be two.
 
 fn put_keys(px: &[i32], py: &[i32], s: Point, keys: &mut [u64])
     requires even { Even px.now py.now × Within reach s }

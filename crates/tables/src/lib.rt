@@ -98,25 +98,17 @@ pub fn unpack(rows: &mut NodeRows, nodes: &[RoutingNode; tree::MOST_NODES], n: u
 
 // ---- the node that has a name
 
-// Of the first n nodes.
-fn find_named(rows: &NodeRows, n: u16, name: NodeName) -> Option<NodeIndex>
-    requires { n ≤ most_nodes }
-    ensures { (c : Columns) → c.rows.kind ≡ column 1 rows.now.marks → c.rows.number ≡ column 2 rows.now.marks → lookup_of result ≡ lookup (nodes_of c n) (name_in name) n }
-{
-    for i in 0..n {
-        if rows.name_at(usize::from(i)) == name {
-            return Some(NodeIndex(i));
-        }
-    }
-    None
-}
-
 impl Table {
     ghost use Rattle.tables.specs.Table.{table_tree};
 
     pub fn find_node(&self, name: NodeName) -> Option<NodeIndex>
         ensures { lookup_of result ≡ lookup (table_tree self.now).nodes (name_in name) self.now.arena.counts.nodes }
     {
-        find_named(&self.arena.nodes, self.arena.counts.nodes, name)
+        for i in 0..self.arena.counts.nodes {
+            if self.arena.nodes.name_at(usize::from(i)) == name {
+                return Some(NodeIndex(i));
+            }
+        }
+        None
     }
 }

@@ -22,7 +22,7 @@ fn put_indent(out: &mut [u8], at: usize, level: usize) -> usize
     ensures { Puts out.old at (indent level) out.new result }
 {
     let mut p = at;
-    for k in 0..level {
+    for _k in 0..level {
         p = wire::put_all(out, p, b"  ");
     }
     p

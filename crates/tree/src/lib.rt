@@ -22,11 +22,11 @@ pub const MOST_NODES: usize = 250;
 // `worst_wirelength` of a fresh tree.
 pub const NO_LIMIT: u32 = 2147483647;
 
-// The path length of a node that no search has joined.
+// The path length of a node that no search has joined: document 01 has 0, and not none.
 pub const UNMEASURED: u32 = 0;
 
 // What stands for no node in a column of indices.
-pub const NO_NODE: u16 = 65535;
+pub const NO_NODE: u16 = u16::MAX;
 
 // A node's index, a Steiner number and a terminal number: none serves for another.
 #[derive(Clone, Copy, Debug, PartialEq, Eq, Hash)]

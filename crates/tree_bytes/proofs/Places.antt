@@ -1,4 +1,4 @@
--- A node's place among its parent's children is how many steps along prev there are; and the loop that counts them.
+-- A node's place among its parent's children is how many siblings stand before it, along prev.
 use Rattle.std.proofs.Common.{◌≡◌, refl, sym, ap, subst, ◌∙◌, inl, inr, Bool, true, false, cond, List, [], ◌∷◌, ◌++◌, reverse, ℕ, suc, ◌+◌, ◌≤◌, ◌<◌, arith, length, get_or, eqb, Option, None, Some}
 use Rattle.std.proofs.Math.ListN.{length-reverse}
 use mathlib.Core.List.{reverse-cons, reverse-reverse}
@@ -17,7 +17,7 @@ use Rattle.joining.specs.Store.{Columns, index_from}
 use Rattle.joining.proofs.Agree.{count-reverse, once}
 use Rattle.measures.specs.Children.{chain_at, Siblings}
 use Rattle.measures.proofs.Reading.{Read, parent_is, parent_low}
-use Rattle.measures.proofs.Children.{link_read, siblings_from, chain-none, siblings_before, chain_step}
+use Rattle.measures.proofs.Children.{link_read, siblings_from}
 
 -- not there: the place of the new one is the length
 place_new : (i : ℕ) (xs : List ℕ) → count i xs ≡ 0 → place_in i (xs ++ (i ∷ [])) ≡ length xs
@@ -74,10 +74,10 @@ before prev i l (c ∷ cs) h k = by (eqb c i) refl k (before prev i (get_or prev
           place = ap (place_in i) (reverse-cons c cs) ∙ place_old i (reverse cs) c (omega (arith, count-reverse i cs)) ∙ v.place;
         }
 
--- the steps that are left from a sibling on, of `all`
-pub record Steps (prev : List ℕ) (n all : ℕ) (sibling : Option NodeIndex) (steps : ℕ) : Type 0 where
+-- a sibling and those before it are `all`
+pub record Earlier (prev : List ℕ) (n all : ℕ) (sibling : Option NodeIndex) : Type 0 where
   pub siblings : Siblings prev n sibling
-  pub is : steps + length (chain_at prev sibling) ≡ all
+  pub is : length (chain_at prev sibling) ≡ all
   pub few : all ≤ most_nodes
 
 module _ {ns : List Node} {c : Columns} {n : ℕ} (v : Read ns c n) where
@@ -113,9 +113,9 @@ module _ {ns : List Node} {c : Columns} {n : ℕ} (v : Read ns c n) where
       chain-those : chain c.prev (get_or c.prev i 0) ≡ sibs.those
       chain-those = chain_is (length c.prev) c.prev (get_or c.prev i 0) sibs.those v.ends sibs.lead (omega (arith, sibs.few, short, v.few, v.in_prev))
 
-      pub starts : {sibling : Option NodeIndex} → sibling ≡ index_from (get_or c.prev i 0) → Steps c.prev n place_of sibling 0
+      pub earlier : {sibling : Option NodeIndex} → sibling ≡ index_from (get_or c.prev i 0) → Earlier c.prev n place_of sibling
       unfolding cs
-      starts {sibling} es =
+      earlier {sibling} es =
           let e : place_of ≡ length sibs.those
           = ap (place_under ns i) is_child ∙ ap (place_in i) (sym (reverse-reverse (node_at ns p.0).children)) ∙ sibs.place in
           let links : Chained c.prev (get_or c.prev i 0) = record { is = subst (Chain c.prev (get_or c.prev i 0)) (sym chain-those) sibs.lead } in
@@ -124,12 +124,3 @@ module _ {ns : List Node} {c : Columns} {n : ℕ} (v : Read ns c n) where
             is = omega (arith, e, ap length (ap (chain c.prev) (link_read (get_or c.prev i 0) es) ∙ chain-those));
             few = omega (arith, e, sibs.few, short, v.few);
           }
-
-  module _ {all : ℕ} {sibling : Option NodeIndex} {steps : ℕ} (s : Steps c.prev n all sibling steps) where
-    pub stops : sibling ≡ None → steps ≡ all
-    stops e = omega (arith, s.is, ap length (chain-none v s.siblings e))
-
-    -- at the sibling x, which is read at k, and then the one before it
-    module _ {x : NodeIndex} (e : sibling ≡ Some x) {k : ℕ} (ek : k ≡ x.0) {earlier : Option NodeIndex} (eb : earlier ≡ index_from (get_or c.prev k 0)) where
-      pub turn : Steps c.prev n all earlier (steps + 1)
-      turn = record { siblings = siblings_before v s.siblings e k ek eb; is = omega (arith, s.is, ap length (chain_step v s.siblings e k ek eb)); few = s.few }

@@ -13,11 +13,11 @@ ghost use Rattle.tree_bytes.specs.TreeBytes.{parent_byte, record_of, in_turn, he
 ghost use Rattle.tree_bytes.specs.Show.{show_record};
 
 use geometry::Point;
-use measures::{Figures, Lent};
+use measures::{Chain, Figures, Lent};
 use refusal::Refusal;
 use tree::{NodeIndex, NodeType};
 
-// The source has no parent.
+// The source has no parent: the format's number for that.
 const NO_PARENT: u8 = 255;
 
 // ---- a node's fields
@@ -38,13 +38,8 @@ fn place(tree: Lent, i: usize) -> u8
     let Some(_parent) = tree.arena.nodes.parent_at(i) else {
         return 0;
     };
-    let mut steps: u8 = 0;
-    let mut sibling = joining::child_before(&tree.arena.links, i);
-    while let Some(c) = sibling {
-        steps += 1;
-        sibling = joining::child_before(&tree.arena.links, usize::from(c));
-    }
-    steps
+    let next = joining::child_before(&tree.arena.links, i);
+    Chain { tree, next }.count() as u8
 }
 
 fn parent_byte(p: Option<NodeIndex>) -> u8

@@ -1,4 +1,5 @@
 -- `editing::insert_by_search`: 5, 2, 6 in turn, then what `join_found` gives.
+use Rattle.geometry.specs.Signed.{home}
 use Rattle.refusal.specs.declared.Refusal.TheVariants.{Outside, TooMany, BadKeepout}
 use Rattle.editing.specs.Edits.{insert_terminal_with_constraints}
 use Rattle.editing.proofs.Refusing.{stop, past, near, fits, found_is}
@@ -25,7 +26,7 @@ pub join_found-requires : goal.join_found-requires
 join_found-requires c =
     record {
       within = near c.outside.ensures c.if-outside.false;
-      fits = fits c.args.t.now c.args.ks.now c.args.query _ c.find_place-j.ensures;
+      fits = fits c.args.t.now c.args.ks.now c.args.q _ _ c.find_place-j.ensures;
     }
 
 pub returns : goal.returns
@@ -34,4 +35,4 @@ returns c =
     past _ _ c.outside.ensures c.if-outside.false
     (past _ _ c.too_many.ensures c.if-too_many.false
     (past _ _ c.any_invalid.ensures c.if-any_invalid.false
-    (found_is c.args.t.now c.args.ks.now c.args.query _ c.requires c.find_place-j.ensures c.join_found.ensures)))
+    (found_is c.args.t.now c.args.ks.now c.args.q _ (home c.ranges.allowed) c.find_place-j.ensures c.join_found.ensures)))

@@ -1,10 +1,6 @@
--- `removing::lower_links`: at the loop's head the links before j are lowered.
-use Rattle.std.proofs.Common.{◌-◌}
+-- `removing::lower_links`: at the loop's head the links before the next one are lowered.
 use Rattle.removing.proofs.Moving.{Lowering}
 use Rattle.removing.proofs.lower_links.Given as goal
 
-abbrev pub invariant-loop-j : goal.invariant-loop-j
-invariant-loop-j l = Lowering l.n l.i l.fn.col l.col l.j
-
-abbrev pub decreases-loop-j : goal.decreases-loop-j
-decreases-loop-j l = l.n - l.j
+abbrev pub invariant-loop-v : goal.invariant-loop-v
+invariant-loop-v l = Lowering l.i l.initial.v-items l.v-items l.v-index

@@ -20,8 +20,7 @@ overflow_add-l-2 c =
 
 pub returns-then-not-takes : goal.returns-then-not-takes
 returns-then-not-takes c =
-    c.untaken.ensures
-    ∙ judged_no _ _ _ _ _ _ _ _ _ c.requires.d_value c.distance-e.ensures c.allows-w.ensures c.takes.ensures c.if-not-takes.true
+    judged_no _ _ _ _ _ _ _ _ _ c.requires.d_value c.distance-e.ensures c.allows-w.ensures c.takes.ensures c.if-not-takes.true
 
 pub returns : goal.returns
 returns c =

@@ -9,7 +9,7 @@ pub loop-k-init : goal.loop-k-init
 loop-k-init c = puts_as (puts_none _ _ (omega arith) (omega arith)) indent-none
 
 pub loop-k-preserved : goal.loop-k-preserved
-loop-k-preserved c = puts_as (puts_then c.loop-k.invariant c.put_all-p.ensures) (indent_more c.loop-k.k)
+loop-k-preserved c = puts_as (puts_then c.loop-k.invariant c.put_all-p.ensures) (indent_more c.loop-k._k)
 
 pub returns : goal.returns
-returns c = puts_as c.loop-k.invariant (ap indent (omega (arith, c.loop-k.auto.k-end)))
+returns c = puts_as c.loop-k.invariant (ap indent (omega (arith, c.loop-k.auto._k-end)))

@@ -2,15 +2,11 @@
 use Rattle.std.proofs.Common.{subst, ◌∙◌}
 use Rattle.geometry.specs.Signed.{home}
 use Rattle.tree.specs.Memory.{keepouts_of}
-use Rattle.rectangles.proofs.Gathering.{few}
 use Rattle.editing.specs.Edits.{Edit, insert_terminal_with_constraints}
 use Rattle.global_router.specs.Stored.{tree_of}
 use Rattle.global_router.specs.Editing.{EditedTo}
 use Rattle.global_router.proofs.Gathered.{by_gathered}
 use Rattle.global_router.proofs.GlobalRoutingTree.insert_terminal_with_constraints.Goals as goal
-
-pub bounds-bounds-requires : goal.bounds-bounds-requires
-bounds-bounds-requires c = few c.gather-gathered.ensures
 
 pub returns : goal.returns
 returns c =
