@@ -174,7 +174,7 @@ fn join_found(t: &Table, q: Point, j: Join) -> Result<Insertion, Refusal>
     Ok(Insertion { name, table })
 }
 
-// ---- the edits. Each takes its lookups apart itself, so that 7 is seen to end it there, also where two heads are alike.
+// ---- the edits, with the Rust's parameters. Each takes its lookups apart itself, so that 7 is seen to end it there, also where two heads are alike.
 
 // Refusals, in this order: 5, 7, 10.
 pub fn insert_steiner_node(

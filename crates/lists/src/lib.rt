@@ -14,7 +14,7 @@ use tree::{NodeIndex, NodeType};
 
 // ---- the path from the source (an output and its place: see wire, "writing")
 
-// The parent's path, then the node, over at most `left` steps.
+// The parent's path, then the node, over at most `left` steps, which falls.
 fn put_path(tree: Lent, out: &mut [u16], at: usize, node: NodeIndex, left: usize) -> usize
     requires { node.0 < tree.arena.now.counts.nodes }
     ensures { Puts out.old at (path_down (nodes_in tree.entry.arena.now) left node.0) out.new result }

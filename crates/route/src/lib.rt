@@ -76,7 +76,7 @@ fn choose(mode: Mode, s: Point, w: u32) -> Choice
     }
 }
 
-// An arena in which no tree stands yet.
+// An arena in which no tree stands yet. (Zeros, as the rows of `reading::rows_of` before nodes are stored: a line for each array.)
 fn empty_arena() -> Arena
     ensures { SizedStore most_nodes (stored result) }
 {
@@ -95,7 +95,7 @@ fn empty_arena() -> Arena
     }
 }
 
-// The tree of terminals in the order given, by a choice; the table carries w.
+// The tree of terminals in the order given, by a choice; the table carries w. (The columns are parts of a job's arrays, and `plan` has sorted them.)
 fn route_columns(px: &[i32], py: &[i32], ks: &[i32], c: Choice, w: u32) -> Table
     requires plannable { Plannable px.now py.now c.query.point }
     requires small { (c.query.limit ≤ no_limit) × (w ≤ across) }
