@@ -49,8 +49,8 @@ use Rattle.table_steps.specs.Steps.{Stepped, steiner_in, new_number, Numbered, R
 use Rattle.editing.specs.Editing.{parent_name_of, kind_in, new_name, passed, overfull}
 
 -- ---- tests. What is answered is y, which is `edit_of` of the code's answer
-pub stop : (e : Refusal) (x : D.Edit) {b s : Bool} → s ≡ b → s ≡ true → refused (number_of e) ≡ cond b (refused (number_of e)) x
-stop e x h t = rw (sym h ∙ t) refl
+pub stop : (n : ℕ) (x : D.Edit) {b s : Bool} → s ≡ b → s ≡ true → refused n ≡ cond b (refused n) x
+stop n x h t = rw (sym h ∙ t) refl
 
 pub past : (n : ℕ) (x : D.Edit) {b s : Bool} {y : D.Edit} → s ≡ b → s ≡ false → y ≡ x → y ≡ cond b (refused n) x
 past n x h e v = rw (sym h ∙ e) v

@@ -19,7 +19,7 @@ fn write_step(
     requires { at < length script.now }
     ensures { IfOk result (λ next. at < next) }
 {
-    let mut out = planning::buffer::<{ script::MOST_ANSWER }>();
+    let mut out = script::answer_buffer();
     let step = script::step(tree, script, at, &mut out);
     rt.write_all(&out[..step.written])?;
     Ok(step.next)
@@ -35,7 +35,7 @@ fn write_steps(rt: &HostRuntime, mut tree: GlobalRoutingTree, script: &[u8]) -> 
 }
 
 fn run(rt: &HostRuntime, script: &[u8]) -> Result<()> {
-    let mut out = planning::buffer::<{ script::MOST_ANSWER }>();
+    let mut out = script::answer_buffer();
     let start = script::start(script);
     let n = script::put_start(&mut out, &start);
     rt.write_all(&out[..n])?;

@@ -11,9 +11,10 @@ use Rattle.search.specs.declared.NodeView.{NodeView}
 use Rattle.search.specs.Walk.{node_index, view_at}
 use Rattle.search.specs.Columns.{InReach}
 use Rattle.joining.specs.declared.Row.{Row}
+use Rattle.joining.specs.declared.NumberedRow.{NumberedRow}
 use Rattle.joining.specs.declared.SplitRows.{SplitRows}
 use Rattle.joining.specs.declared.Counts.{Counts}
-use Rattle.joining.specs.Store.{Rows, Store, set_row, set_parent, SizedRows, SizedStore}
+use Rattle.joining.specs.Store.{Rows, Store, set_row, set_numbered_row, set_parent, SizedRows, SizedStore}
 use Rattle.joining.specs.Links.{Appended, Spliced, Spliceable}
 
 -- the row of a terminal at q below p
@@ -61,6 +62,11 @@ pub record Attachable (c : Store) (n p : ℕ) : Type 0 where
 -- the node n has a row, no children, and stands last among its parent's
 pub record RowAttached (c : Store) (n : ℕ) (row : Row) (c' : Store) : Type 0 where
   pub rows : c'.rows ≡ set_row c.rows n row
+  pub links : Appended c.links row.parent.0 n c'.links
+
+-- the same of a row whose kind and number are numbers
+pub record NumberedAttached (c : Store) (n : ℕ) (row : NumberedRow) (c' : Store) : Type 0 where
+  pub rows : c'.rows ≡ set_numbered_row c.rows n row
   pub links : Appended c.links row.parent.0 n c'.links
 
 -- ---- a branch is split

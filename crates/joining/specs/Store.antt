@@ -9,6 +9,7 @@ use Rattle.search.specs.Walk.{node_index}
 pub use Rattle.search.specs.Walk.{index_from, link_in}
 use Rattle.search.specs.Columns.{chain}
 use Rattle.joining.specs.declared.Row.{Row}
+use Rattle.joining.specs.declared.NumberedRow.{NumberedRow}
 use Rattle.joining.specs.Links.{ChildrenAre, Links, BackedBy, SizedLinks}
 
 pub record Rows : Type 0 where
@@ -61,6 +62,32 @@ set_row r i n =
       kind = set r.kind i (kind_of (name_in n.name));
       number = set r.number i (number_of (name_in n.name));
     }
+
+-- the same of rows whose kind and number are numbers, whatever they are
+abbrev pub numbered_row_at : Rows → ℕ → NumberedRow
+numbered_row_at r i =
+    record {
+      point = point_at r.xs r.ys i;
+      path = get_or r.path i 0;
+      parent = node_index (get_or r.parent i 0);
+      kind = get_or r.kind i 0;
+      number = get_or r.number i 0;
+    }
+
+abbrev pub set_numbered_row : Rows → ℕ → NumberedRow → Rows
+set_numbered_row r i n =
+    record {
+      xs = set r.xs i n.point.xcoord;
+      ys = set r.ys i n.point.ycoord;
+      path = set r.path i n.path;
+      parent = set r.parent i n.parent.0;
+      kind = set r.kind i n.kind;
+      number = set r.number i n.number;
+    }
+
+-- a row with the numbers of its name
+abbrev pub numbered : Row → NumberedRow
+numbered n = record { point = n.point; path = n.path; parent = n.parent; kind = kind_of (name_in n.name); number = number_of (name_in n.name) }
 
 abbrev pub set_parent : Rows → ℕ → ℕ → Rows
 set_parent r i p = record { xs = r.xs; ys = r.ys; path = r.path; parent = set r.parent i p; kind = r.kind; number = r.number }

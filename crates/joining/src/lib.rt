@@ -8,9 +8,9 @@ ghost use Rattle.tree.specs.Limits.{longest_path, most_nodes, no_node, reach};
 ghost use Rattle.tree.specs.WellFormed.{new_nodes};
 ghost use Rattle.geometry.specs.Laws.{Within};
 ghost use Rattle.search.specs.Find.{join_of};
-ghost use Rattle.joining.specs.Store.{index_from, link_in, row_at, set_row, set_parent};
+ghost use Rattle.joining.specs.Store.{index_from, link_in, row_at, numbered_row_at, numbered, set_numbered_row, set_row, set_parent};
 ghost use Rattle.joining.specs.Links.{Attached, Detached, Appended, Adopted, Spliced, Spliceable, Detachable};
-ghost use Rattle.joining.specs.Join.{terminal_row, path_below, split_rows, one_more, two_more, Attachable, RowAttached, with_split, SplitReads, Splittable, BranchSplit};
+ghost use Rattle.joining.specs.Join.{terminal_row, path_below, split_rows, one_more, two_more, Attachable, RowAttached, NumberedAttached, with_split, SplitReads, Splittable, BranchSplit};
 ghost use Rattle.joining.specs.Buffers.{column, Put, read_in, ReadsAt, links_in, rows_held, stored};
 ghost use Rattle.joining.specs.Standing.{Standing, At, Joined, Holding, Became};
 
@@ -70,6 +70,16 @@ pub struct Row {
     pub path: u32,
     pub parent: NodeIndex,
     pub name: NodeName,
+}
+
+// A row as the columns hold it: its kind and its number are numbers, whatever they are, where a Row has a name.
+#[derive(Clone, Copy)]
+pub struct NumberedRow {
+    pub point: Point,
+    pub path: u32,
+    pub parent: NodeIndex,
+    pub kind: u16,
+    pub number: u16,
 }
 
 // The rows of a terminal and of the Steiner node above it.
@@ -146,6 +156,21 @@ pub fn child_before(links: &[u16; LINKS], i: usize) -> Option<NodeIndex>
 
 // ---- rows
 
+impl Row {
+    // With the numbers of its name.
+    pub fn numbered(self) -> NumberedRow
+        ensures { result ≡ numbered self }
+    {
+        NumberedRow {
+            point: self.point,
+            path: self.path,
+            parent: self.parent,
+            kind: u16::from(self.name.node_type()),
+            number: self.name.number(),
+        }
+    }
+}
+
 impl NodeRows {
     // What the search reads of the nodes.
     pub fn columns(&self) -> NodeColumns<'_>
@@ -176,11 +201,20 @@ impl NodeRows {
         search::index_of(entry_at::<0>(&self.marks, i))
     }
 
+    // A node's kind as its column holds it, whatever it is.
+    pub fn kind_number_at(&self, i: usize) -> u16
+        requires { i < most_nodes }
+        ensures { result ≡ get_or (column 1 self.now.marks) i 0 }
+    {
+        entry_at::<1>(&self.marks, i)
+    }
+
+    // The kind that it stands for.
     pub fn kind_at(&self, i: usize) -> NodeType
         requires { i < most_nodes }
         ensures { result ≡ type_of (get_or (column 1 self.now.marks) i 0) }
     {
-        NodeType::from(entry_at::<1>(&self.marks, i))
+        NodeType::from(self.kind_number_at(i))
     }
 
     pub fn name_at(&self, i: usize) -> NodeName
@@ -190,6 +224,21 @@ impl NodeRows {
         NodeName::new(self.kind_at(i), entry_at::<2>(&self.marks, i))
     }
 
+    // The row as the columns hold it.
+    pub fn numbered_row_at(&self, i: usize) -> NumberedRow
+        requires { i < most_nodes }
+        ensures { result ≡ numbered_row_at (rows_held self.now) i }
+    {
+        NumberedRow {
+            point: self.point_at(i),
+            path: self.path[i],
+            parent: NodeIndex(entry_at::<0>(&self.marks, i)),
+            kind: entry_at::<1>(&self.marks, i),
+            number: entry_at::<2>(&self.marks, i),
+        }
+    }
+
+    // The row with its name.
     pub fn row_at(&self, i: usize) -> Row
         requires { i < most_nodes }
         ensures { result ≡ row_at (rows_held self.now) i }
@@ -258,17 +307,24 @@ impl NodeRows {
         SplitRows { terminal, steiner }
     }
 
-    pub fn store_row(&mut self, at: NodeIndex, row: Row)
+    pub fn store_numbered_row(&mut self, at: NodeIndex, row: NumberedRow)
         requires { at.0 < most_nodes }
-        ensures { rows_held self.new ≡ set_row (rows_held self.old) at.0 row }
+        ensures { rows_held self.new ≡ set_numbered_row (rows_held self.old) at.0 row }
     {
         let i = usize::from(at);
         self.points[i] = row.point.xcoord;
         self.points[YS + i] = row.point.ycoord;
         self.path[i] = row.path;
         self.marks[i] = row.parent.0;
-        self.marks[KINDS + i] = u16::from(row.name.node_type());
-        self.marks[NUMBERS + i] = row.name.number();
+        self.marks[KINDS + i] = row.kind;
+        self.marks[NUMBERS + i] = row.number;
+    }
+
+    pub fn store_row(&mut self, at: NodeIndex, row: Row)
+        requires { at.0 < most_nodes }
+        ensures { rows_held self.new ≡ set_row (rows_held self.old) at.0 row }
+    {
+        self.store_numbered_row(at, row.numbered());
     }
 
     pub fn store_parent(&mut self, at: NodeIndex, parent: NodeIndex)
@@ -383,13 +439,22 @@ impl Arena {
     }
 
     // The node n, with no children, goes last among those of its row's parent.
+    pub fn attach_numbered(&mut self, n: NodeIndex, row: NumberedRow)
+        requires { Attachable (stored self.old) n.0 row.parent.0 }
+        ensures attached { NumberedAttached (stored self.old) n.0 row (stored self.new) }
+        ensures counts { self.new.counts ≡ self.old.counts }
+    {
+        self.nodes.store_numbered_row(n, row);
+        append_child(&mut self.links, row.parent, n);
+    }
+
+    // The same of a row with a name.
     pub fn attach(&mut self, n: NodeIndex, row: Row)
         requires { Attachable (stored self.old) n.0 row.parent.0 }
         ensures attached { RowAttached (stored self.old) n.0 row (stored self.new) }
         ensures counts { self.new.counts ≡ self.old.counts }
     {
-        self.nodes.store_row(n, row);
-        append_child(&mut self.links, row.parent, n);
+        self.attach_numbered(n, row.numbered());
     }
 
     // The rows and links of a terminal at q on the branch from p to c.

@@ -3,12 +3,19 @@
 #![tactic(auto)]
 
 ghost use Rattle.std.specs.Prelude.{◌≡◌, ◌+◌, ◌<◌, ◌≤◌, length, IfSome};
+ghost use Rattle.replay.specs.Input.{most_case};
 
 use global_router::GlobalRoutingTree;
 use std::io::{Read, Result};
 
 // Room for any case of the input.
 const MOST_CASE: usize = 131072;
+
+fn case_buffer() -> [u8; MOST_CASE]
+    ensures { most_case ≡ length result }
+{
+    planning::buffer()
+}
 
 // ---- slices
 
@@ -31,7 +38,7 @@ fn plans(job: &[u8], text: &[u8]) -> bool {
 }
 
 fn gives_bytes(t: &GlobalRoutingTree, bytes: &[u8]) -> bool {
-    let mut out = planning::buffer::<{ script::MOST_BYTES }>();
+    let mut out = script::bytes_buffer();
     t.to_bytes(&mut out).is_ok_and(|n| wrote(&out, n, bytes))
 }
 
@@ -76,7 +83,7 @@ fn step(tree: &mut GlobalRoutingTree, script: &[u8], answers: &[u8], from: Place
     requires { (from.next < length script.now) × (from.at ≤ length answers.now) }
     ensures { IfSome result (λ to. (from.next < to.next) × (to.at ≤ length answers.now)) }
 {
-    let mut out = planning::buffer::<{ script::MOST_ANSWER }>();
+    let mut out = script::answer_buffer();
     let r = script::step(tree, script, from.next, &mut out);
     let at = after_line(answers, from.at, &out[..r.written])?;
     Some(Place { next: r.next, at })
@@ -99,7 +106,7 @@ fn follow(mut tree: GlobalRoutingTree, script: &[u8], answers: &[u8], at: usize)
 
 // Where the answers end that a script gives, if they stand there.
 fn answered(script: &[u8], answers: &[u8]) -> Option<usize> {
-    let mut out = planning::buffer::<{ script::MOST_ANSWER }>();
+    let mut out = script::answer_buffer();
     let start = script::start(script);
     let n = script::put_start(&mut out, &start);
     let at = after_line(answers, 0, &out[..n])?;
@@ -148,7 +155,7 @@ fn replay<R: Read, F: Fn(&[u8]) -> bool>(
 {
     let mut differing: u32 = 0;
     for i in 0..n {
-        let mut buf = planning::buffer::<MOST_CASE>();
+        let mut buf = case_buffer();
         let size = read_case(source, &mut buf);
         if !agrees(&buf[..size]) {
             println!(rt; "{kind} {i} differs")?;

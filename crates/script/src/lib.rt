@@ -3,9 +3,10 @@
 // A field past a script's end reads as 0: no bytes are refused here.
 #![tactic(auto)]
 
-ghost use Rattle.std.specs.Prelude.{◌<◌, ◌≤◌, length};
+ghost use Rattle.std.specs.Prelude.{◌≡◌, ◌<◌, ◌≤◌, length};
 ghost use Rattle.rectangles.specs.Rectangles.{room};
 ghost use Rattle.planning.specs.Output.{most_text};
+ghost use Rattle.script.specs.Buffers.{most_bytes, most_listed, most_answer};
 
 use geometry::{Point, Rectangle};
 use global_router::GlobalRoutingTree;
@@ -20,13 +21,33 @@ const RECORD_SIZE: usize = 32;
 
 const KEEPOUT_SIZE: usize = 16;
 
-// The largest buffers that a call is lent.
+// ---- buffers, whose lengths are the definitions'
+
+// The largest that a call is lent.
 pub const MOST_BYTES: usize = 4024;
 
 const MOST_LISTED: usize = 250;
 
 // Room for the longest answer: a text with its line.
 pub const MOST_ANSWER: usize = 65552;
+
+pub fn bytes_buffer() -> [u8; MOST_BYTES]
+    ensures { most_bytes ≡ length result }
+{
+    planning::buffer()
+}
+
+fn list_buffer() -> [u16; MOST_LISTED]
+    ensures { most_listed ≡ length result }
+{
+    [0; MOST_LISTED]
+}
+
+pub fn answer_buffer() -> [u8; MOST_ANSWER]
+    ensures { most_answer ≡ length result }
+{
+    planning::buffer()
+}
 
 // ---- what a record holds
 
@@ -124,7 +145,7 @@ fn put_word(out: &mut [u8], word: &[u8], n: u32) -> usize {
 
 // How many nodes a tree has: its bytes begin with that.
 fn count_of(t: &GlobalRoutingTree) -> u8 {
-    let mut bytes = planning::buffer::<MOST_BYTES>();
+    let mut bytes = bytes_buffer();
     let _ = t.to_bytes(&mut bytes);
     wire::byte_at(&bytes, 0)
 }
@@ -185,7 +206,7 @@ fn ask_list<F: FnOnce(&mut [u16]) -> Result<usize, Refusal>>(
 ) -> Result<usize, Refusal>
     requires { F.IsAlwaysCallable fill }
 {
-    let mut list = [0u16; MOST_LISTED];
+    let mut list = list_buffer();
     let n = fill(&mut list[..room_in(record, MOST_LISTED)])?;
     Ok(put_list(out, word, &list[..n.min(MOST_LISTED)]))
 }
@@ -205,7 +226,7 @@ fn ask_text(t: &GlobalRoutingTree, record: &[u8], out: &mut [u8]) -> Result<usiz
 }
 
 fn ask_bytes(t: &GlobalRoutingTree, record: &[u8], out: &mut [u8]) -> Result<usize, Refusal> {
-    let mut bytes = planning::buffer::<MOST_BYTES>();
+    let mut bytes = bytes_buffer();
     let room = room_in(record, MOST_BYTES);
     let n = t.to_bytes(&mut bytes[..room])?;
     Ok(put_tree_bytes(out, &bytes[..n.min(MOST_BYTES)]))

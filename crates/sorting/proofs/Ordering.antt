@@ -38,7 +38,7 @@ pub record Fits (s : Point) (k : ℕ) : Type 0 where
 key_fits : (s p : Point) → Within reach p → Fits s (key_of s p)
 key_fits s p f = record { is = ap (key_of s) (key_back s p f); near = subst (Within reach) (sym (key_back s p f)) f }
 
-not_less : (a b : ℕ) → is_lt (nat_cmp a b) ≡ false → b ≤ a
+pub not_less : (a b : ℕ) → is_lt (nat_cmp a b) ≡ false → b ≤ a
 not_less a b f = by (ltb a b) refl f
   where
     by : (t : Bool) → ltb a b ≡ t → is_lt (cond t Less (cond (eqb a b) Equal Greater)) ≡ false → b ≤ a

@@ -1,4 +1,5 @@
--- The library sorts the keys, and the code no longer guesses an order. The laws stand.
+-- Sorting depends on how often each key stands in a list, and on nothing else (`sort-same`): `sort_keys` of the code rests on that. And a law that the
+-- code no longer uses, since it no longer guesses an order before it sorts:
 -- Keys that went to places which were free: the places hold the keys so far, each as often, and are free for the rest. So once all keys went, the
 -- places hold the same keys; and sorting depends only on how often each key stands there. Nothing is asked of which place a key goes to.
 use Rattle.std.proofs.Common.{ℕ, zero, suc, ◌+◌, ◌-◌, ◌≤◌, ◌<◌, ◌≡◌, refl, sym, ap, ◌∙◌, Bool, true, false, not, cond, List, [], ◌∷◌, arith, add-one, length, get_or, set, take, replicate, length-set, ext_get_or, take-suc, ltb, eqb}

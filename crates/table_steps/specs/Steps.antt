@@ -26,10 +26,14 @@ pub record Addable (t : Table) (n : Name) (q : Point) : Type 0 where
   pub next : Next t.arena.counts.steiner.0 t.arena.counts.terminal.0 n
   pub within : Within reach q
 
--- a new Steiner number, if there is one, is within the limit
+-- a new Steiner number, if there is one, is at most m
+abbrev pub NumberedTo : ℕ → Option SteinerNumber → Type 0
+NumberedTo m None = Unit {0}
+NumberedTo m (Some k) = k.0 ≤ m
+
+-- it is within the limit
 abbrev pub Numbered : Option SteinerNumber → Type 0
-Numbered None = Unit {0}
-Numbered (Some k) = k.0 ≤ most_nodes
+Numbered = NumberedTo most_nodes
 
 -- there is room for more nodes, and for a Steiner number
 abbrev pub Room : Table → ℕ → Option SteinerNumber → Type 0

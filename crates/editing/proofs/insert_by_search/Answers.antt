@@ -7,17 +7,17 @@ use Rattle.editing.proofs.insert_by_search.Goals as goal
 
 pub returns-then-outside : goal.returns-then-outside
 unfolding insert_terminal_with_constraints
-returns-then-outside c = stop Outside _ c.outside.ensures c.if-outside.true
+returns-then-outside c = stop _ _ c.outside.ensures c.if-outside.true
 
 pub returns-then-too_many : goal.returns-then-too_many
 unfolding insert_terminal_with_constraints
-returns-then-too_many c = past _ _ c.outside.ensures c.if-outside.false (stop TooMany _ c.too_many.ensures c.if-too_many.true)
+returns-then-too_many c = past _ _ c.outside.ensures c.if-outside.false (stop _ _ c.too_many.ensures c.if-too_many.true)
 
 pub returns-then-any_invalid : goal.returns-then-any_invalid
 unfolding insert_terminal_with_constraints
 returns-then-any_invalid c =
     past _ _ c.outside.ensures c.if-outside.false
-    (past _ _ c.too_many.ensures c.if-too_many.false (stop BadKeepout _ c.any_invalid.ensures c.if-any_invalid.true))
+    (past _ _ c.too_many.ensures c.if-too_many.false (stop _ _ c.any_invalid.ensures c.if-any_invalid.true))
 
 pub find_place-j-requires : goal.find_place-j-requires
 find_place-j-requires c = near c.outside.ensures c.if-outside.false

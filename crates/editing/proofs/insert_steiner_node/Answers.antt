@@ -8,7 +8,7 @@ use Rattle.editing.proofs.insert_steiner_node.Goals as goal
 
 pub returns-then-outside : goal.returns-then-outside
 unfolding insert_steiner_node
-returns-then-outside c = stop Outside _ c.outside.ensures c.if-outside.true
+returns-then-outside c = stop _ _ c.outside.ensures c.if-outside.true
 
 pub returns-in_default : goal.returns-in_default
 unfolding insert_steiner_node

@@ -8,7 +8,7 @@ use Rattle.editing.proofs.insert_terminal_node.Goals as goal
 
 pub returns-then-outside : goal.returns-then-outside
 unfolding insert_terminal_node
-returns-then-outside c = stop Outside _ c.outside.ensures c.if-outside.true
+returns-then-outside c = stop _ _ c.outside.ensures c.if-outside.true
 
 pub terminal_parent-requires : goal.terminal_parent-requires
 terminal_parent-requires c = near c.outside.ensures c.if-outside.false

@@ -6,7 +6,7 @@ use Rattle.editing.proofs.Refusing.{stop, past, full-join, room, gives}
 use Rattle.editing.proofs.join_found.Goals as goal
 
 pub returns-then-is_full : goal.returns-then-is_full
-returns-then-is_full c = stop Full _ (c.is_full.ensures ∙ full-join c.args.t.now (join_of c.args.j)) c.if-is_full.true
+returns-then-is_full c = stop _ _ (c.is_full.ensures ∙ full-join c.args.t.now (join_of c.args.j)) c.if-is_full.true
 
 pub with_terminal-requires-clause-room : goal.with_terminal-requires-clause-room
 with_terminal-requires-clause-room c = room c.args.t.now _ _ (sym c.is_full.ensures ∙ c.if-is_full.false)

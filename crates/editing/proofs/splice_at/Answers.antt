@@ -7,7 +7,7 @@ use Rattle.editing.proofs.splice_at.Goals as goal
 pub returns-then-overfull : goal.returns-then-overfull
 returns-then-overfull c =
     past _ _ (ap not c.is_child.ensures) (ap not c.if-not-is_child.false)
-    (stop Full _ (full-one c.args.t.now _ c.steiner_number.ensures c.overfull.ensures) c.if-overfull.true)
+    (stop _ _ (full-one c.args.t.now _ c.steiner_number.ensures c.overfull.ensures) c.if-overfull.true)
 
 pub with_node_between-requires-clause-c_value : goal.with_node_between-requires-clause-c_value
 with_node_between-requires-clause-c_value c =

@@ -62,7 +62,8 @@ pub bypass-requires : goal.bypass-requires
 bypass-requires c =
     let p = parent_is c.args.arena.now c.args.i c.requires c.from-at.ensures c.unwrap-p.result c.parent_at.ensures c.unwrap-p.ensures in
     let d = child_is c.args.arena.now c.args.i c.requires c.from-at.ensures c.unwrap-c.result c.last_child.ensures c.unwrap-c.ensures in
-    may_bypass c.args.i.0 _ (stored c.args.arena.now) c.requires _ _ p d
+    let b = may_bypass c.args.i.0 _ (stored c.args.arena.now) c.requires _ _ p d in
+    record { sized = b.sized; in_i = b.in_i; in_p = b.in_p; in_c = omega (arith, b.in_i, b.in_c); linked = b.linked; has = b.has; backed = b.backed }
 
 pub close_up-requires : goal.close_up-requires
 close_up-requires c =

@@ -1,6 +1,7 @@
 -- `table_steps::with_leaf`: the table's tree, with one node more.
 use Rattle.std.proofs.Common.{ℕ, ◌<◌, length, arith, refl}
 use Rattle.geometry.specs.declared.Point.{Point}
+use Rattle.tree.specs.Limits.{most_nodes}
 use Rattle.tree.specs.declared.NodeName.{NodeName}
 use Rattle.tree.specs.Memory.{name_in}
 use Rattle.tree.specs.Route.{attached}
@@ -25,7 +26,7 @@ module _ (t : Table) (n : NodeName) (q : Point) (p : ℕ) (v : Addable t (name_i
       let h : p < length (table_tree t).nodes = omega (arith, r.0, size t) in
       stepping t (Below (name_in n) p) (h, v.next) (λ x. attached x (name_in n) q p) (formed-attached (table_tree t) (tabled t).formed (name_in n) v.next q v.within p h)
       (omega (arith, one_leaf (table_tree t) (tabled t).formed (name_in n) q p h, size t, r.1.0))
-      (number-after (table_tree t) (tabled t).formed (name_in n) v.next (tabled t).steiners r.1.1) a g refl refl refl
+      (number-after (table_tree t) (tabled t).formed (name_in n) v.next most_nodes (tabled t).steiners r.1.1) a g refl refl refl
 
 pub insert_leaf-requires : goal.insert_leaf-requires
 insert_leaf-requires c = before c.args.t.now c.args.name c.args.q c.args.p.0 c.requires.addable c.requires.p_lt_nodes

@@ -1,6 +1,7 @@
 -- `table_steps::with_node_between`: the table's tree, with one node more.
 use Rattle.std.proofs.Common.{ℕ, ◌≡◌, arith, refl}
 use Rattle.geometry.specs.declared.Point.{Point}
+use Rattle.tree.specs.Limits.{most_nodes}
 use Rattle.tree.specs.Tree.{at, node_at}
 use Rattle.tree.specs.declared.NodeName.{NodeName}
 use Rattle.tree.specs.Memory.{name_in}
@@ -25,7 +26,7 @@ module _ (t : Table) (n : NodeName) (q : Point) (p c : ℕ) (v : Addable t (name
   after {a} g =
       stepping t (Between (name_in n) p c) (r.0, v.next) (λ x. spliced x (name_in n) q p c) (formed-spliced (table_tree t) (tabled t).formed (name_in n) v.next q v.within p c r.0)
       (omega (arith, one-between (table_tree t) (tabled t).formed (name_in n) q p c r.0, size t, r.1.0))
-      (number-after (table_tree t) (tabled t).formed (name_in n) v.next (tabled t).steiners r.1.1) a g refl refl refl
+      (number-after (table_tree t) (tabled t).formed (name_in n) v.next most_nodes (tabled t).steiners r.1.1) a g refl refl refl
 
 pub insert_between-requires : goal.insert_between-requires
 insert_between-requires c = before c.args.t.now c.args.name c.args.q c.args.p.0 c.args.c.0 c.requires.addable c.requires.c_value

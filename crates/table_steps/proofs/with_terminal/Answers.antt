@@ -2,7 +2,7 @@
 use Rattle.std.proofs.Common.{arith, refl}
 use Rattle.geometry.specs.declared.Point.{Point}
 use Rattle.geometry.specs.Laws.{Within}
-use Rattle.tree.specs.Limits.{reach}
+use Rattle.tree.specs.Limits.{most_nodes, reach}
 use Rattle.tree.specs.Route.{join}
 use Rattle.tree.specs.WellFormed.{Fits, new_nodes}
 use Rattle.tree.proofs.Forming.{formed-join}
@@ -23,7 +23,7 @@ module _ (t : Table) (q : Point) (j : Join) (near : Within reach q) (fits : Fits
   after {a} g =
       stepping t (At j) fits (λ x. join x q (join_of j)) (formed-join (table_tree t) (tabled t).formed q near (join_of j) fits)
       (omega (arith, joined-size (table_tree t) (tabled t).formed q (join_of j) fits, size t, room.0))
-      (joined_number t (join_of j) (tabled t).steiners room.1) a g refl refl refl
+      (joined_number t (join_of j) most_nodes (tabled t).steiners room.1) a g refl refl refl
 
 pub join-requires : goal.join-requires
 join-requires c = ready c.args.t.now (At c.args.j) _ _ c.requires.fits c.requires.room.0 c.requires.within
