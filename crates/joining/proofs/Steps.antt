@@ -9,8 +9,9 @@ use Rattle.tree.specs.Measures.{kind_of, number_of}
 use Rattle.search.specs.Walk.{node_index}
 use Rattle.search.specs.Columns.{Has, Distinct, Chain, chain}
 use Rattle.joining.specs.declared.Row.{Row}
+use Rattle.joining.specs.declared.NumberedRow.{NumberedRow}
 use Rattle.joining.specs.Links.{BackedBy, Links, links, SizedLinks, Attached, Detached, before_of, Appended}
-use Rattle.joining.specs.Store.{Rows, Store, columns_of, Keeps, Backs, row_at, set_row, set_parent, SizedRows, node_from, parent_from}
+use Rattle.joining.specs.Store.{Rows, Store, columns_of, Keeps, Backs, row_at, set_row, numbered_row_at, set_numbered_row, numbered, set_parent, SizedRows, node_from, parent_from}
 use Rattle.joining.proofs.Lists.{Held, Apart, attach_own, attach_other}
 use Rattle.joining.proofs.Agree.{has-count, count-reverse}
 use Rattle.joining.proofs.Names.{named-again}
@@ -34,6 +35,27 @@ row_other r i j n h =
       name = named (type_of (get_or-set_other r.kind i j (kind_of (name_in n.name)) 0 h k)) (get_or-set_other r.number i j (number_of (name_in n.name)) 0 h k);
     }
 
+-- the same of a row whose kind and number are numbers
+pub numbered_same : (m : ℕ) (r : Rows) (i : ℕ) (n : NumberedRow) → SizedRows m r → i < m → numbered_row_at (set_numbered_row r i n) i ≡ n
+numbered_same m r i n z h =
+    λ k. record {
+      point = record { xcoord = get_or-set_same r.xs i n.point.xcoord (pos 0) (omega (arith, z.xs)) k; ycoord = get_or-set_same r.ys i n.point.ycoord (pos 0) (omega (arith, z.ys)) k };
+      path = get_or-set_same r.path i n.path 0 (omega (arith, z.path)) k;
+      parent = node_index (get_or-set_same r.parent i n.parent.0 0 (omega (arith, z.parent)) k);
+      kind = get_or-set_same r.kind i n.kind 0 (omega (arith, z.kind)) k;
+      number = get_or-set_same r.number i n.number 0 (omega (arith, z.number)) k;
+    }
+
+pub numbered_other : (r : Rows) (i j : ℕ) (n : NumberedRow) → j ≢ i → numbered_row_at (set_numbered_row r i n) j ≡ numbered_row_at r j
+numbered_other r i j n h =
+    λ k. record {
+      point = record { xcoord = get_or-set_other r.xs i j n.point.xcoord (pos 0) h k; ycoord = get_or-set_other r.ys i j n.point.ycoord (pos 0) h k };
+      path = get_or-set_other r.path i j n.path 0 h k;
+      parent = node_index (get_or-set_other r.parent i j n.parent.0 0 h k);
+      kind = get_or-set_other r.kind i j n.kind 0 h k;
+      number = get_or-set_other r.number i j n.number 0 h k;
+    }
+
 abbrev pub child_of : ℕ → Row → Row
 child_of p n = record { point = n.point; path = n.path; parent = node_index p; name = n.name }
 
@@ -43,8 +65,8 @@ parent-same m r i p z h = ap (λ (x : ℕ). child_of x (row_at r i)) (get_or-set
 pub parent_other : (r : Rows) (i j p : ℕ) → j ≢ i → row_at (set_parent r i p) j ≡ row_at r j
 parent_other r i j p h = ap (λ (x : ℕ). child_of x (row_at r j)) (get_or-set_other r.parent i j p 0 h)
 
-pub sized_row : (m : ℕ) (r : Rows) (i : ℕ) (n : Row) → SizedRows m r → SizedRows m (set_row r i n)
-sized_row m r i n z =
+pub sized_numbered : (m : ℕ) (r : Rows) (i : ℕ) (n : NumberedRow) → SizedRows m r → SizedRows m (set_numbered_row r i n)
+sized_numbered m r i n z =
     record {
       xs = length-set r.xs i _ ∙ z.xs;
       ys = length-set r.ys i _ ∙ z.ys;
@@ -53,6 +75,9 @@ sized_row m r i n z =
       kind = length-set r.kind i _ ∙ z.kind;
       number = length-set r.number i _ ∙ z.number;
     }
+
+pub sized_row : (m : ℕ) (r : Rows) (i : ℕ) (n : Row) → SizedRows m r → SizedRows m (set_row r i n)
+sized_row m r i n z = sized_numbered m r i (numbered n) z
 
 pub sized-parent : (m : ℕ) (r : Rows) (i p : ℕ) → SizedRows m r → SizedRows m (set_parent r i p)
 sized-parent m r i p z = record { xs = z.xs; ys = z.ys; path = z.path; parent = length-set r.parent i _ ∙ z.parent; kind = z.kind; number = z.number }

@@ -3,7 +3,6 @@ use Rattle.std.specs.Prelude.{ℕ, zero, suc, ◌≤◌, ◌<◌, ◌≡◌, con
 use Rattle.tree.specs.Limits.{no_node}
 use Rattle.tree.specs.Memory.{point_at, type_of, named, name_in}
 use Rattle.tree.specs.Measures.{kind_of, number_of}
-use Rattle.tree.specs.declared.NodeIndex.{NodeIndex}
 use Rattle.tree.specs.Tree.{zero_figure, Node, Name, Parent, none, at, node_at}
 use Rattle.search.specs.Walk.{node_index}
 pub use Rattle.search.specs.Walk.{index_from, link_in}

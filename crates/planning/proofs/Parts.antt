@@ -1,6 +1,6 @@
 -- A buffer's first bytes after what was put there, or after an answer that wrote.
 -- And the output that the parts make: a tree's, by its text in a buffer; and a job's, by what its bytes get.
-use Rattle.std.proofs.Common.{◌≡◌, refl, sym, ap, ◌∙◌, Bool, true, false, cond, List, ◌++◌, ℕ, ◌+◌, ◌≤◌, ◌<◌, arith, length, take, drop, length-append, leb, Result, Ok, Err}
+use Rattle.std.proofs.Common.{◌≡◌, refl, ap, ◌∙◌, Bool, true, false, cond, List, ◌++◌, ℕ, ◌+◌, ◌≤◌, ◌<◌, arith, length, take, drop, length-append, leb, Result, Ok, Err}
 use Rattle.std.proofs.Math.Seq.{take-append_seam}
 use borrow.Author.Tests.{le-leb, lt-leb}
 use Rattle.wire.specs.Puts.{Puts, puts_as, puts_then, puts_length}

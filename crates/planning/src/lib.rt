@@ -27,12 +27,19 @@ pub fn buffer<const N: usize>() -> [u8; N]
 
 // ---- the lines
 
+// The line of any number.
+pub fn put_refusal_number(out: &mut [u8], at: usize, n: u8) -> usize
+    ensures { Puts out.old at (refusal_line n) out.new result }
+{
+    let p1 = output::put_bytes(out, at, b"refused ");
+    let p2 = decimal::put_u32(out, p1, u32::from(n));
+    output::put_bytes(out, p2, b"\n")
+}
+
 pub fn put_refusal(out: &mut [u8], at: usize, r: Refusal) -> usize
     ensures { Puts out.old at (refusal_line (number_of r)) out.new result }
 {
-    let p1 = output::put_bytes(out, at, b"refused ");
-    let p2 = decimal::put_u32(out, p1, u32::from(r.number()));
-    output::put_bytes(out, p2, b"\n")
+    put_refusal_number(out, at, r.number())
 }
 
 // One write for each part of the line, and no `write!`: digits are made without division (docs/DECISIONS.md 36), and a place past the end still counts.

@@ -1,5 +1,4 @@
 -- `editing::attach_at`: 10, or the tree with the new node.
-use Rattle.refusal.specs.declared.Refusal.TheVariants.{Full}
 use Rattle.editing.proofs.Refusing.{stop, past, full-one, room_for, gives}
 use Rattle.editing.proofs.attach_at.Goals as goal
 

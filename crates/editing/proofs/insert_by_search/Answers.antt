@@ -1,6 +1,5 @@
 -- `editing::insert_by_search`: 5, 2, 6 in turn, then what `join_found` gives.
 use Rattle.geometry.specs.Signed.{home}
-use Rattle.refusal.specs.declared.Refusal.TheVariants.{Outside, TooMany, BadKeepout}
 use Rattle.editing.specs.Edits.{insert_terminal_with_constraints}
 use Rattle.editing.proofs.Refusing.{stop, past, near, fits, found_is}
 use Rattle.editing.proofs.insert_by_search.Goals as goal

@@ -1,6 +1,5 @@
 -- `editing::insert_node_on_branch`: 5, then 7 of either name, then 9, then what `splice_at` gives.
 use Rattle.std.proofs.Common.{◌≡◌, Err, sym, ap, ◌∙◌, rules}
-use Rattle.refusal.specs.declared.Refusal.TheVariants.{Outside}
 use Rattle.editing.specs.Edits.{insert_node_on_branch}
 use Rattle.editing.specs.Editing.{edit_of}
 use Rattle.tables.proofs.TableSizes.{of_all}

@@ -1,6 +1,5 @@
 -- `editing::insert_terminal_node`: 5, then 7, then what `attach_at` gives.
 use Rattle.std.proofs.Common.{refl}
-use Rattle.refusal.specs.declared.Refusal.TheVariants.{Outside}
 use Rattle.editing.specs.Edits.{insert_terminal_node}
 use Rattle.editing.specs.Editing.{parent_name_of}
 use Rattle.editing.proofs.Refusing.{stop, past, near, lost, there, parent-low, closest-low}

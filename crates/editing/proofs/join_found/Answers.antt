@@ -1,6 +1,5 @@
 -- `editing::join_found`: 10, or the tree with the terminal.
 use Rattle.std.proofs.Common.{sym, ◌∙◌}
-use Rattle.refusal.specs.declared.Refusal.TheVariants.{Full}
 use Rattle.search.specs.Find.{join_of}
 use Rattle.editing.proofs.Refusing.{stop, past, full-join, room, gives}
 use Rattle.editing.proofs.join_found.Goals as goal

@@ -1,6 +1,5 @@
 -- `editing::splice_at`: 8, then 10, or the tree with the new node.
 use Rattle.std.proofs.Common.{ap, not}
-use Rattle.refusal.specs.declared.Refusal.TheVariants.{NotAChild, Full}
 use Rattle.editing.proofs.Refusing.{stop, past, full-one, room_for, gives, is_child_of_lem}
 use Rattle.editing.proofs.splice_at.Goals as goal
 

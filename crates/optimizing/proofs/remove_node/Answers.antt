@@ -6,7 +6,7 @@ use Rattle.tree.specs.declared.NodeIndex.{NodeIndex}
 use Rattle.joining.specs.declared.Arena.{Arena}
 use Rattle.joining.specs.declared.Counts.{Counts}
 use Rattle.joining.specs.Links.{Links}
-use Rattle.joining.specs.Store.{Rows, Store, store, index_from, link_in}
+use Rattle.joining.specs.Store.{Rows, Store, store, index_from}
 use Rattle.joining.specs.Buffers.{column, links_in, stored}
 use Rattle.joining.proofs.Blocks.{column-most}
 use Rattle.removing.specs.Store.{Bypassable, StoreClosed, one_fewer}

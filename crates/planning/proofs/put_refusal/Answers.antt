@@ -1,13 +1,8 @@
--- `planning::put_refusal`: the parts one after the other.
-use Rattle.std.proofs.Common.{◌≡◌, ap}
-use Rattle.decimal.specs.Decimal.{decimal_of}
-use Rattle.refusal.specs.Refusals.{number_of}
-use Rattle.wire.specs.Puts.{puts_as, puts_then}
+-- `planning::put_refusal`: the line of the refusal's number.
+use Rattle.std.proofs.Common.{ap}
+use Rattle.wire.specs.Puts.{puts_as}
 use Rattle.planning.specs.Output.{refusal_line}
 use Rattle.planning.proofs.put_refusal.Goals as goal
 
 pub returns : goal.returns
-unfolding refusal_line
-returns c =
-    let e : c.from.result ≡ number_of c.args.r = cc in
-    puts_then (puts_then c.put_bytes-p1.ensures (puts_as c.put_u32-p2.ensures (ap decimal_of e))) c.put_bytes.ensures
+returns c = puts_as c.put_refusal_number.ensures (ap refusal_line c.number.ensures)

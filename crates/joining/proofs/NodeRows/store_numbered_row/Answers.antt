@@ -1,5 +1,5 @@
 -- `joining::NodeRows::store_numbered_row`: six stores, each in a column of its own.
-use Rattle.std.proofs.Common.{ℕ, ◌≡◌, ◌∙◌, ◌+◌, ◌<◌, List, ℤ, w32, arith, rules}
+use Rattle.std.proofs.Common.{ℕ, ◌≡◌, ◌+◌, ◌<◌, List, ℤ, w32, arith, rules}
 use Rattle.std.proofs.Math.ListN.{set}
 use mir.ValLaws.{to_z-of_z}
 use Rattle.geometry.specs.Signed.{InPoint}
